@@ -1,0 +1,31 @@
+-- Bytes and parts at the end of a list: be16-past, be32-past, part-past, part-tail, part-inside.
+use Prim.Native.Nat.{ℕ, _+_, _-_, _*_, _≤_, _<_}
+use mathlib.Core.Path.{_≡_, sym, _∙_}
+use mathlib.Core.List.{List, []}
+use lib.ListN.{length, getD, take, drop, length-drop, List·getD-eq-default, drop-of-length-le}
+use lib.Seq.{take-nil, take-all}
+use native.Mathlib.Omega.{arith}
+use Rattle.be.specs.Numbers.{be16At, be32At}
+
+getD-past : (s : List ℕ) (at k : ℕ) → length s ≤ at → getD s (at + k) 0 ≡ 0
+getD-past s at k h = List·getD-eq-default s 0 (omega arith)
+
+pub be16-past : (s : List ℕ) (at : ℕ) → length s ≤ at → 0 ≡ be16At s at
+unfolding be16At
+be16-past s at h = rw (List·getD-eq-default s 0 h, getD-past s at 1 h)
+
+pub be32-past : (s : List ℕ) (at : ℕ) → length s ≤ at → 0 ≡ be32At s at
+unfolding be32At
+be32-past s at h = rw (List·getD-eq-default s 0 h, getD-past s at 1 h, getD-past s at 2 h, getD-past s at 3 h)
+
+pub part-past : (s : List ℕ) (from extent : ℕ) → length s ≤ from → [] ≡ take extent (drop from s)
+part-past s from extent h = rw (drop-of-length-le s h) (sym (take-nil extent))
+
+pub part-tail : (s : List ℕ) (from extent : ℕ) → length s - from < extent
+    → take (length s - from) (drop from s) ≡ take extent (drop from s)
+part-tail s from extent h =
+    let e = length-drop from s in
+    take-all (length s - from) (drop from s) (omega arith) ∙ sym (take-all extent (drop from s) (omega arith))
+
+pub part-inside : (s : List ℕ) (from extent : ℕ) → take (from + extent - from) (drop from s) ≡ take extent (drop from s)
+part-inside s from extent = let e : from + extent - from ≡ extent = omega arith in rw e

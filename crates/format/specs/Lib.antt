@@ -1,0 +1,5 @@
+pub mod Verdicts
+pub mod Sizes
+pub mod Places
+pub mod Lead
+pub mod Records

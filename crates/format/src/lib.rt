@@ -1,0 +1,14 @@
+// The package format's records with their sizes and field places, the two kinds of place, and what a run of checks finds.
+pub mod lead;
+pub mod places;
+pub mod records;
+pub mod verdict;
+
+pub use lead::Lead;
+pub use places::FileOffset;
+pub use places::Section;
+pub use places::StoreOffset;
+pub use records::HeaderRecord;
+pub use records::IndexRecord;
+pub use verdict::Answer;
+pub use verdict::Verdict;

@@ -1,0 +1,89 @@
+// The header record and the index record.
+ghost use mathlib.Core.Path.{_≡_};
+ghost use Rattle.format.specs.Records.{headerRecordAt, indexRecordAt};
+use crate::places::FileOffset;
+use crate::places::StoreOffset;
+
+// The first 16 bytes of a header structure.
+pub struct HeaderRecord {
+    pub magic: u32,
+    pub reserved: u32,
+    pub nindex: u32,
+    pub hsize: u32,
+}
+
+impl HeaderRecord {
+    pub const SIZE: usize = 16;
+
+    pub const MAGIC: usize = 0;
+
+    pub const RESERVED: usize = 4;
+
+    pub const NINDEX: usize = 8;
+
+    pub const HSIZE: usize = 12;
+    // The largest number of index records.
+    pub const NINDEX_LIMIT: u32 = 512;
+
+    // The header record at a place of the file.
+    pub fn at(pkg: &[u8], place: FileOffset) -> Self
+        ensures { λ r. ⌜ r ≡ headerRecordAt (now (pkg .entry)) (place .0) ⌝ }
+    {
+        let at = place.0;
+        if pkg.len() <= at {
+            return Self {
+                magic: 0,
+                reserved: 0,
+                nindex: 0,
+                hsize: 0,
+            };
+        }
+        Self {
+            magic: be::be32(pkg, at + Self::MAGIC),
+            reserved: be::be32(pkg, at + Self::RESERVED),
+            nindex: be::be32(pkg, at + Self::NINDEX),
+            hsize: be::be32(pkg, at + Self::HSIZE),
+        }
+    }
+}
+
+// One record of an index: an entry's tag, type, place of its data and count.
+pub struct IndexRecord {
+    pub tag: u32,
+    pub ty: u32,
+    pub offset: StoreOffset,
+    pub count: u32,
+}
+
+impl IndexRecord {
+    pub const SIZE: usize = 16;
+
+    pub const TAG: usize = 0;
+
+    pub const TYPE: usize = 4;
+
+    pub const OFFSET: usize = 8;
+
+    pub const COUNT: usize = 12;
+
+    // The index record at a place of the file.
+    pub fn at(pkg: &[u8], place: FileOffset) -> Self
+        ensures { λ r. ⌜ r ≡ indexRecordAt (now (pkg .entry)) (place .0) ⌝ }
+    {
+        let at = place.0;
+        if pkg.len() <= at {
+            return Self {
+                tag: 0,
+                ty: 0,
+                offset: StoreOffset(0),
+                count: 0,
+            };
+        }
+        Self {
+            tag: be::be32(pkg, at + Self::TAG),
+            ty: be::be32(pkg, at + Self::TYPE),
+            offset: StoreOffset(be::be32(pkg, at + Self::OFFSET)),
+            count: be::be32(pkg, at + Self::COUNT),
+        }
+    }
+}
