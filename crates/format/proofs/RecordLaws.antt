@@ -13,11 +13,11 @@ use Rattle.format.specs.Records.{headerRecordAt, indexRecordAt}
 
 module _ (s : List ℕ) (at : ℕ) {a b c d : ℕ} where
   pub header-read : a ≡ be32At s (at + 0) → b ≡ be32At s (at + 4) → c ≡ be32At s (at + 8) → d ≡ be32At s (at + 12)
-    → _≡_ {A = HeaderRecord} (record { magic = a; reserved = b; nindex = c; hsize = d }) (headerRecordAt s at)
+      → _≡_ {A = HeaderRecord} (record { magic = a; reserved = b; nindex = c; hsize = d }) (headerRecordAt s at)
   header-read p q r t = rw (p, q, r, t, add-zero)
 
   pub index-read : a ≡ be32At s (at + 0) → b ≡ be32At s (at + 4) → c ≡ be32At s (at + 8) → d ≡ be32At s (at + 12)
-    → _≡_ {A = IndexRecord} (record { tag = a; ty = b; offset = record { 0 = c }; count = d }) (indexRecordAt s at)
+      → _≡_ {A = IndexRecord} (record { tag = a; ty = b; offset = record { 0 = c }; count = d }) (indexRecordAt s at)
   index-read p q r t = rw (p, q, r, t, add-zero)
 
 -- a field of a record that starts past the end
@@ -29,5 +29,5 @@ module _ (s : List ℕ) (at : ℕ) (h : length s ≤ at) where
   header-past = header-read s at (past s at 0 h) (past s at 4 h) (past s at 8 h) (past s at 12 h)
 
   pub index-past :
-    _≡_ {A = IndexRecord} (record { tag = 0; ty = 0; offset = record { 0 = 0 }; count = 0 }) (indexRecordAt s at)
+      _≡_ {A = IndexRecord} (record { tag = 0; ty = 0; offset = record { 0 = 0 }; count = 0 }) (indexRecordAt s at)
   index-past = index-read s at (past s at 0 h) (past s at 4 h) (past s at 8 h) (past s at 12 h)

@@ -1,0 +1,5 @@
+pub mod TypeLaws
+pub mod EntryLaws
+pub mod LookupLaws
+pub mod RecordsLaws
+pub mod PassLaws

@@ -1,0 +1,62 @@
+-- What a structure that passed its checks is, and the answer of the checks from what was read.
+use Prim.Native.Nat.{ℕ, zero, suc, _+_, _*_, _≤_, _<_}
+use mathlib.Core.Path.{_≡_, refl, sym, ap, _∙_}
+use mathlib.Core.List.{List}
+use native.Mathlib.Omega.{arith}
+use borrow.Author.Tests.{leb-true, eqb-true}
+use Rattle.format.specs.declared.places.Section.{Section}
+use Rattle.format.specs.declared.records.HeaderRecord.{HeaderRecord}
+use Rattle.format.specs.declared.verdict.Verdict.{Verdict}
+use Rattle.format.specs.declared.verdict.Verdict.the-variants.{Pass, Fail}
+use Rattle.format.specs.Places.{storePlace, sectionEnd}
+use Rattle.format.specs.Records.{headerRecordAt}
+use Rattle.format.specs.Verdicts.{both}
+use Rattle.format.proofs.VerdictLaws.{inverted, both-inverted, both-pass, both-fail}
+use Rattle.structure.specs.declared.checks.Checked.{Checked}
+use Rattle.structure.specs.declared.checks.Checked.the-variants.{Sound, Unsound}
+use Rattle.structure.specs.Entries.{recordCheck}
+use Rattle.structure.specs.Structure.{sectionOf, sectionAt, headerCheck, recordsFrom, recordsCheck, structureCheck}
+use Rattle.structure.specs.Lookup.{findIn, checkedAs, structureChecked}
+
+-- what checks 5 to 8 say of a header record
+pub record HeaderSound (len start : ℕ) (h : HeaderRecord) : Type 0 where
+  pub room : start + 16 ≤ len
+  pub magic : h .magic ≡ 0x8EADE801
+  pub reserved : h .reserved ≡ 0
+  pub some : 1 ≤ h .nindex
+  pub within : h .nindex ≤ 512
+  pub fits : sectionEnd (sectionOf start h) ≤ len
+
+pub header-sound : (len start : ℕ) (h : HeaderRecord) → headerCheck len start h ≡ Pass → HeaderSound len start h
+unfolding headerCheck
+header-sound len start h k =
+    let k5 = inverted _ _ _ _ k in
+    let k6 = inverted _ _ _ _ (k5 .1) in
+    let k6′ = inverted _ _ _ _ (k6 .1) in
+    let k7 = inverted _ _ _ _ (k6′ .1) in
+    let k7′ = inverted _ _ _ _ (k7 .1) in
+    let k8 = inverted _ _ _ _ (k7′ .1) in
+    record {
+      room = leb-true _ _ (k5 .0);
+      magic = eqb-true _ _ (k6 .0);
+      reserved = eqb-true _ _ (k6′ .0);
+      some = leb-true _ _ (k7 .0);
+      within = leb-true _ _ (k7′ .0);
+      fits = leb-true _ _ (k8 .0);
+    }
+
+-- in the shape of what is known where the structure is checked: h is the header record that was read, v what its checks found
+module _ (s : List ℕ) (len start tag ty : ℕ) {h : HeaderRecord} (q : h ≡ headerRecordAt s start) {v : Verdict}
+    (p : v ≡ headerCheck len start h) where
+  pub refused : {number at : ℕ} → v ≡ Fail number at → Unsound number at ≡ structureChecked s len start tag ty
+  unfolding structureCheck
+  refused k = rw (both-fail _ (rw q at (sym p ∙ k)))
+
+  pub sound : {r : Checked} → v ≡ Pass
+      → r ≡ checkedAs (recordsCheck s (sectionOf start h)) (sectionOf start h) (findIn s (sectionOf start h) tag ty)
+      → r ≡ structureChecked s len start tag ty
+  unfolding structureCheck
+  sound k j = rw (both-pass {rest = recordsCheck s (sectionAt s start)} (rw q at (sym p ∙ k))) (rw q at j)
+
+  pub store-small : v ≡ Pass → len < 4294967296 → storePlace (sectionOf start h) < 4294967296
+  store-small k l = let b = header-sound len start h (sym p ∙ k) .fits in omega arith

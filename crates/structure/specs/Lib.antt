@@ -1,0 +1,4 @@
+pub mod Types
+pub mod Entries
+pub mod Structure
+pub mod Lookup

@@ -1,0 +1,67 @@
+-- Document 01, "Numbers the station shows", on look-ups: the entry with a tag and a type.
+use Prim.Native.Nat.{ℕ, zero, suc, _+_, _-_}
+use mathlib.Core.List.{List}
+use mathlib.Core.Bool.{Bool, cond, _&&_}
+use lib.Dec.{eqb}
+use Rattle.be.specs.declared.Ending.{Ending}
+use Rattle.be.specs.declared.Ending.the-variants.{Ends, Open}
+use Rattle.format.specs.declared.places.Section.{Section}
+use Rattle.format.specs.declared.records.IndexRecord.{IndexRecord}
+use Rattle.format.specs.declared.verdict.Verdict.{Verdict}
+use Rattle.format.specs.declared.verdict.Verdict.the-variants.{Pass, Fail}
+use Rattle.format.specs.Places.{inFile}
+use Rattle.structure.specs.declared.lookup.Entry.{Entry}
+use Rattle.structure.specs.declared.lookup.Found.{Found}
+use Rattle.structure.specs.declared.lookup.Found.the-variants.{At, Nothing}
+use Rattle.structure.specs.declared.checks.Checked.{Checked}
+use Rattle.structure.specs.declared.checks.Checked.the-variants.{Sound, Unsound}
+use Rattle.structure.specs.Entries.{recordAt, dataEnd}
+use Rattle.structure.specs.Structure.{structureCheck, sectionAt}
+
+-- how many bytes lie between a place and an end
+abbrev pub extentTo : ℕ → Ending → ℕ
+extentTo from (Ends to) = to - from
+extentTo from Open = 0
+
+-- an entry: its type and count, where its data starts in the file, and how many bytes it has
+abbrev pub entryOf : Section → IndexRecord → Ending → Entry
+entryOf section e end =
+    record {
+      ty = e .ty;
+      count = e .count;
+      at = record { 0 = inFile section (e .offset) };
+      extent = extentTo (inFile section (e .offset)) end;
+    }
+
+abbrev pub entryAt : List ℕ → Section → ℕ → Entry
+entryAt s section i = entryOf section (recordAt s section i) (dataEnd s section (recordAt s section i))
+
+abbrev pub isFor : ℕ → ℕ → IndexRecord → Bool
+isFor tag ty e = eqb (e .tag) tag && eqb (e .ty) ty
+
+-- the first of n index records from number i on that has the tag and the type
+unfoldable pub findFrom : List ℕ → Section → ℕ → ℕ → ℕ → ℕ → Found
+findFrom s section zero i tag ty = Nothing
+findFrom s section (suc n) i tag ty =
+    cond (isFor tag ty (recordAt s section i)) (At (entryAt s section i)) (findFrom s section n (i + 1) tag ty)
+
+abbrev pub findIn : List ℕ → Section → ℕ → ℕ → Found
+findIn s section tag ty = findFrom s section (section .nindex) 0 tag ty
+
+-- the first that was found
+abbrev pub orElse : Found → Found → Found
+orElse (At entry) later = At entry
+orElse Nothing later = later
+
+-- what is found once an index record has been seen
+abbrev pub noted : Found → ℕ → ℕ → Section → IndexRecord → Ending → Found
+noted found tag ty section e end = orElse found (cond (isFor tag ty e) (At (entryOf section e end)) Nothing)
+
+-- a structure that passed its checks, with what was looked for in it
+abbrev pub checkedAs : Verdict → Section → Found → Checked
+checkedAs Pass section found = Sound section found
+checkedAs (Fail number place) section found = Unsound number place
+
+abbrev pub structureChecked : List ℕ → ℕ → ℕ → ℕ → ℕ → Checked
+structureChecked s len start tag ty =
+    checkedAs (structureCheck s len start) (sectionAt s start) (findIn s (sectionAt s start) tag ty)
