@@ -1,3 +1,4 @@
 pub mod ByteLaws
+pub mod SameLaws
 pub mod Choice
 pub mod StringLaws

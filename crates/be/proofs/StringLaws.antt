@@ -3,11 +3,12 @@ use Prim.Native.Nat.{ℕ, zero, suc, _+_, _-_, _≤_, _<_}
 use mathlib.Core.Path.{_≡_, refl, sym, ap, ap₂, _∙_}
 use mathlib.Core.List.{List}
 use lib.ListN.{getD}
+use mathlib.Core.Bool.{Bool, true, false, cond}
 use lib.Dec.{eqb}
 use mathlib.Core.Logic.{⊎-elim}
 use Rattle.be.proofs.Choice.{pick}
 use native.Mathlib.Omega.{arith}
-use borrow.Author.Tests.{eq-eqb, ne-eqb}
+use borrow.Author.Tests.{eq-eqb, ne-eqb, eqb-true, eqb-false}
 use Rattle.be.specs.declared.Ending.{Ending}
 use Rattle.be.specs.declared.Ending.the-variants.{Ends, Open}
 use Rattle.be.specs.Strings.{stringsFrom}
@@ -68,3 +69,78 @@ module _ (s : List ℕ) (end i left : ℕ) {v : Ending} (inv : v ≡ stringsFrom
 
   pub spent : end ≤ i → (left ≡ 0 → ⊥) → Open ≡ v
   spent l k = none s (end - i) i left (omega arith) k ∙ sym inv
+
+-- at least one string takes at least one byte
+pub positive : (s : List ℕ) (room at count e : ℕ) → stringsFrom s room at count ≡ Ends e → 1 ≤ count → at < e
+unfolding stringsFrom
+positive s room at zero e h l = absurd (omega arith)
+positive s zero at (suc count) e h l = let z : _≡_ {A = ℕ} 0 1 = cc in omega arith
+positive s (suc room) at (suc count) e h l =
+    ⊎-elim (λ q. let k = bound s room (at + 1) count e q in omega arith) (λ q. let k = bound s room (at + 1) (suc count) e q in omega arith)
+    (pick (eqb (getD s at 0) 0) _ _ h)
+
+-- only the bytes up to the end matter
+module _ (s : List ℕ) where
+  tight-zero : (at count e : ℕ) → at + 1 ≤ e → getD s at 0 ≡ 0 → stringsFrom s (e - (at + 1)) (at + 1) count ≡ Ends e
+      → stringsFrom s (e - at) at (suc count) ≡ Ends e
+  tight-zero at count e l z h =
+      let k : suc count - 1 ≡ count = omega arith in
+      zero-byte s e at (suc count) (omega arith) (λ q. omega arith) z ∙ rw k h
+
+  tight-other : (at count e : ℕ) → at + 1 ≤ e → (getD s at 0 ≡ 0 → ⊥) → stringsFrom s (e - (at + 1)) (at + 1) (suc count) ≡ Ends e
+      → stringsFrom s (e - at) at (suc count) ≡ Ends e
+  tight-other at count e l z h = other-byte s e at (suc count) (omega arith) (λ q. omega arith) z ∙ h
+
+  pub tight : (room at count e : ℕ) → stringsFrom s room at count ≡ Ends e → stringsFrom s (e - at) at count ≡ Ends e
+  unfolding stringsFrom
+  tight room at zero e h = h
+  tight zero at (suc count) e h = let z : _≡_ {A = ℕ} 0 1 = cc in absurd (omega arith)
+  tight (suc room) at (suc count) e h = go (eqb (getD s at 0) 0) refl h (tight room (at + 1) count e) (tight room (at + 1) (suc count) e)
+    where
+      go : (b : Bool) → eqb (getD s at 0) 0 ≡ b
+          → cond b (stringsFrom s room (at + 1) count) (stringsFrom s room (at + 1) (suc count)) ≡ Ends e
+          → (stringsFrom s room (at + 1) count ≡ Ends e → stringsFrom s (e - (at + 1)) (at + 1) count ≡ Ends e)
+          → (stringsFrom s room (at + 1) (suc count) ≡ Ends e → stringsFrom s (e - (at + 1)) (at + 1) (suc count) ≡ Ends e)
+          → stringsFrom s (e - at) at (suc count) ≡ Ends e
+      go true t q f g = tight-zero at count e (bound s room (at + 1) count e q .0) (eqb-true _ _ t) (f q)
+      go false t q f g = tight-other at count e (bound s room (at + 1) (suc count) e q .0) (eqb-false _ _ t) (g q)
+
+-- where j strings in a row end, k more begin
+module _ (s : List ℕ) where
+  front : (room at j m : ℕ) (b : Bool) → eqb (getD s at 0) 0 ≡ b
+      → cond b (stringsFrom s room (at + 1) j) (stringsFrom s room (at + 1) (suc j)) ≡ Ends m
+      → stringsFrom s (suc room) at (suc j) ≡ Ends m
+  unfolding stringsFrom
+  front room at j m b t h = rw t h
+
+  pub split : (room at j k n e : ℕ) → n ≡ j + k → stringsFrom s room at n ≡ Ends e
+      → (m : ℕ) × (stringsFrom s room at j ≡ Ends m) × (stringsFrom s (at + room - m) m k ≡ Ends e)
+  unfolding stringsFrom
+  split room at zero k n e p h =
+      let q : n ≡ k = omega arith in
+      let r : at + room - at ≡ room = omega arith in
+      (at, refl, rw r (rw q at h))
+  split zero at (suc j) k n e p h =
+      let q : n ≡ suc (j + k) = omega arith in
+      let z : _≡_ {A = ℕ} 0 1 = let h' = rw q at h in cc in
+      absurd (omega arith)
+  split (suc room) at (suc j) k n e p h =
+      let q : n ≡ suc (n - 1) = omega arith in
+      go (eqb (getD s at 0) 0) refl (rw q at h) (split room (at + 1) j k (n - 1) e (omega arith))
+      (split room (at + 1) (suc j) k (suc (n - 1)) e (omega arith))
+    where
+      go : (b : Bool) → eqb (getD s at 0) 0 ≡ b
+          → cond b (stringsFrom s room (at + 1) (n - 1)) (stringsFrom s room (at + 1) (suc (n - 1))) ≡ Ends e
+          → (stringsFrom s room (at + 1) (n - 1) ≡ Ends e
+          → (m : ℕ) × (stringsFrom s room (at + 1) j ≡ Ends m) × (stringsFrom s (at + 1 + room - m) m k ≡ Ends e))
+          → (stringsFrom s room (at + 1) (suc (n - 1)) ≡ Ends e
+          → (m : ℕ) × (stringsFrom s room (at + 1) (suc j) ≡ Ends m) × (stringsFrom s (at + 1 + room - m) m k ≡ Ends e))
+          → (m : ℕ) × (stringsFrom s (suc room) at (suc j) ≡ Ends m) × (stringsFrom s (at + suc room - m) m k ≡ Ends e)
+      go true t q f g =
+          let r = f q in
+          let w : at + suc room - r .0 ≡ at + 1 + room - r .0 = omega arith in
+          (r .0, front room at j (r .0) true t (r .1), rw w (r .2))
+      go false t q f g =
+          let r = g q in
+          let w : at + suc room - r .0 ≡ at + 1 + room - r .0 = omega arith in
+          (r .0, front room at j (r .0) false t (r .1), rw w (r .2))

@@ -4,6 +4,7 @@ ghost use mathlib.Core.Path.{_≡_};
 ghost use Prim.Native.Nat.{ℕ, _+_, _*_, _-_};
 ghost use lib.ListN.{getD, take, drop};
 ghost use Rattle.be.specs.Numbers.{be16At, be32At};
+ghost use Rattle.be.specs.Bytes.{sameBytes};
 ghost use Rattle.be.specs.Strings.{stringsFrom, isEnded};
 
 // The byte at a place.
@@ -70,6 +71,24 @@ pub fn part(s: &[u8], from: usize, extent: usize) -> &[u8]
     }
     let to = from + extent;
     &s[from..to]
+}
+
+// Whether two slices hold the same bytes.
+pub fn same(a: &[u8], b: &[u8]) -> bool
+    ensures { λ r. ⌜ r ≡ sameBytes (now (a .entry)) (now (b .entry)) ⌝ }
+{
+    let len = a.len();
+    if b.len() != len {
+        return false;
+    }
+    let mut i = 0;
+    while i < len {
+        if a[i] != b[i] {
+            return false;
+        }
+        i += 1;
+    }
+    true
 }
 
 // Where a run of strings ends.

@@ -17,6 +17,11 @@ pub struct Section {
     pub hsize: u32,
 }
 
+impl FileOffset {
+    // The largest length of a package.
+    pub const LIMIT: usize = 65536;
+}
+
 impl Section {
     // Where index record `i` starts.
     pub fn index_record(self, i: u32) -> FileOffset

@@ -3,3 +3,4 @@ pub mod EntryLaws
 pub mod LookupLaws
 pub mod RecordsLaws
 pub mod PassLaws
+pub mod SoundLaws

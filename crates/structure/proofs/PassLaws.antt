@@ -16,18 +16,11 @@ use Rattle.structure.specs.declared.checks.Checked.{Checked}
 use Rattle.structure.specs.declared.checks.Checked.the-variants.{Sound, Unsound}
 use Rattle.structure.specs.Entries.{recordCheck}
 use Rattle.structure.specs.Structure.{sectionOf, sectionAt, headerCheck, recordsFrom, recordsCheck, structureCheck}
+use Rattle.structure.specs.Sound.{SoundHeader}
 use Rattle.structure.specs.Lookup.{findIn, checkedAs, structureChecked}
 
 -- what checks 5 to 8 say of a header record
-pub record HeaderSound (len start : ℕ) (h : HeaderRecord) : Type 0 where
-  pub room : start + 16 ≤ len
-  pub magic : h .magic ≡ 0x8EADE801
-  pub reserved : h .reserved ≡ 0
-  pub some : 1 ≤ h .nindex
-  pub within : h .nindex ≤ 512
-  pub fits : sectionEnd (sectionOf start h) ≤ len
-
-pub header-sound : (len start : ℕ) (h : HeaderRecord) → headerCheck len start h ≡ Pass → HeaderSound len start h
+pub header-sound : (len start : ℕ) (h : HeaderRecord) → headerCheck len start h ≡ Pass → SoundHeader len start h
 unfolding headerCheck
 header-sound len start h k =
     let k5 = inverted _ _ _ _ k in
@@ -60,3 +53,27 @@ module _ (s : List ℕ) (len start tag ty : ℕ) {h : HeaderRecord} (q : h ≡ h
 
   pub store-small : v ≡ Pass → len < 4294967296 → storePlace (sectionOf start h) < 4294967296
   store-small k l = let b = header-sound len start h (sym p ∙ k) .fits in omega arith
+
+-- each record of a run that passed has passed
+pub each : (s : List ℕ) (section : Section) (n i : ℕ) → recordsFrom s section n i ≡ Pass → (k : ℕ) → k < n
+    → recordCheck s section (i + k) ≡ Pass
+unfolding recordsFrom
+each s section zero i h k l = absurd (omega arith)
+each s section (suc n) i h zero l =
+    let e : i + 0 ≡ i = omega arith in
+    rw e (both-inverted _ _ h .0)
+each s section (suc n) i h (suc k) l =
+    let e : i + suc k ≡ i + 1 + k = omega arith in
+    rw e (each s section n (i + 1) (both-inverted _ _ h .1) k (omega arith))
+
+-- and so has each record of a structure
+module _ (s : List ℕ) (len start : ℕ) (h : structureCheck s len start ≡ Pass) where
+  pub structure-header : SoundHeader len start (headerRecordAt s start)
+  unfolding structureCheck
+  structure-header = header-sound len start (headerRecordAt s start) (both-inverted _ _ h .0)
+
+  pub structure-record : (k : ℕ) → k < sectionAt s start .nindex → recordCheck s (sectionAt s start) k ≡ Pass
+  unfolding structureCheck
+  structure-record k l =
+      let e : 0 + k ≡ k = omega arith in
+      rw e at (each s (sectionAt s start) (sectionAt s start .nindex) 0 (both-inverted _ _ h .1) k l)

@@ -2,3 +2,4 @@ pub mod Types
 pub mod Entries
 pub mod Structure
 pub mod Lookup
+pub mod Sound

@@ -1,0 +1,35 @@
+use borrow.Author.Needs.{needs}
+use Rattle.package.proofs.lookup.shown.Statement.{statement}
+use Rattle.package.proofs.lookup.shown.Tie as tie
+use Rattle.package.proofs.lookup.shown.Reads as reads
+use Rattle.package.proofs.lookup.shown.Lts as lts
+use Rattle.be.proofs.part.Reads as part-reads
+
+-- src/lookup.rt:41:22
+enum-known-found : tie.Need-enum-known-found
+enum-known-found c = search needs
+
+-- src/lookup.rt:41:32
+part-requires : tie.Need-part-requires
+part-requires c κs = search needs
+
+-- src/lookup.rt:42:34
+enum-told : tie.Need-enum-told
+enum-told c = search needs
+
+-- src/lookup.rt:42:34
+slice-aggregate-result : tie.Need-slice-aggregate-result
+slice-aggregate-result c = search needs
+
+-- src/lookup.rt:37:1
+returns : tie.Need-returns
+returns c = ?
+
+-- src/lookup.rt:37:1
+returns-2 : tie.Need-returns-2
+returns-2 c = search needs
+
+pub shown-spec : {M : Type 1} → statement M
+shown-spec =
+    tie.close
+    (tie.spec enum-known-found part-requires enum-told slice-aggregate-result returns returns-2)

@@ -1,0 +1,85 @@
+use borrow.Author.Needs.{needs}
+use Rattle.package.proofs.sound.lead_check.Statement.{statement}
+use Rattle.package.proofs.sound.lead_check.Tie as tie
+use Rattle.package.proofs.sound.lead_check.Reads as reads
+use Rattle.package.proofs.sound.lead_check.Lts as lts
+
+-- src/sound.rt:45:33
+cast-t3 : tie.Need-cast-t3
+cast-t3 c = search needs
+
+-- src/sound.rt:45:9
+returns : tie.Need-returns
+returns c = ?
+
+-- src/sound.rt:48:33
+cast-t4 : tie.Need-cast-t4
+cast-t4 c = search needs
+
+-- src/sound.rt:48:9
+returns-2 : tie.Need-returns-2
+returns-2 c = ?
+
+-- src/sound.rt:51:33
+cast-t5 : tie.Need-cast-t5
+cast-t5 c = search needs
+
+-- src/sound.rt:51:9
+returns-3 : tie.Need-returns-3
+returns-3 c = ?
+
+-- src/sound.rt:54:33
+cast-t6 : tie.Need-cast-t6
+cast-t6 c = search needs
+
+-- src/sound.rt:54:9
+returns-4 : tie.Need-returns-4
+returns-4 c = ?
+
+-- src/sound.rt:57:33
+cast-t7 : tie.Need-cast-t7
+cast-t7 c = search needs
+
+-- src/sound.rt:57:9
+returns-5 : tie.Need-returns-5
+returns-5 c = ?
+
+-- src/sound.rt:60:33
+cast-t8 : tie.Need-cast-t8
+cast-t8 c = search needs
+
+-- src/sound.rt:60:9
+returns-6 : tie.Need-returns-6
+returns-6 c = ?
+
+-- src/sound.rt:63:33
+cast-t9 : tie.Need-cast-t9
+cast-t9 c = search needs
+
+-- src/sound.rt:63:9
+returns-7 : tie.Need-returns-7
+returns-7 c = ?
+
+-- src/sound.rt:41:1
+returns-8 : tie.Need-returns-8
+returns-8 c = ?
+
+pub lead-check-spec : {M : Type 1} → statement M
+lead-check-spec =
+    tie.close
+    (tie.spec
+    cast-t3
+    returns
+    cast-t4
+    returns-2
+    cast-t5
+    returns-3
+    cast-t6
+    returns-4
+    cast-t7
+    returns-5
+    cast-t8
+    returns-6
+    cast-t9
+    returns-7
+    returns-8)

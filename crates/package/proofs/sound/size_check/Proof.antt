@@ -1,0 +1,24 @@
+use borrow.Author.Needs.{needs}
+use Rattle.package.proofs.sound.size_check.Statement.{statement}
+use Rattle.package.proofs.sound.size_check.Tie as tie
+use Rattle.package.proofs.sound.size_check.Reads as reads
+use Rattle.package.proofs.sound.size_check.Lts as lts
+
+-- src/sound.rt:32:9
+returns : tie.Need-returns
+returns c = ?
+
+-- src/sound.rt:35:33
+cast-t3 : tie.Need-cast-t3
+cast-t3 c = search needs
+
+-- src/sound.rt:35:9
+returns-2 : tie.Need-returns-2
+returns-2 c = ?
+
+-- src/sound.rt:28:1
+returns-3 : tie.Need-returns-3
+returns-3 c = ?
+
+pub size-check-spec : {M : Type 1} → statement M
+size-check-spec = tie.close (tie.spec returns cast-t3 returns-2 returns-3)

@@ -1,0 +1,5 @@
+pub mod Lead
+pub mod Package
+pub mod Lookup
+pub mod Version
+pub mod Walk

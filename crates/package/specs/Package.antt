@@ -1,0 +1,83 @@
+-- Document 01, checks 2 to 13 over a whole package. The length is a number of its own.
+use Prim.Native.Nat.{ℕ, _+_, _*_, _/_}
+use mathlib.Core.List.{List}
+use mathlib.Core.Bool.{Bool, cond}
+use lib.ListN.{length}
+use lib.Dec.{eqb, leb}
+use Rattle.format.specs.declared.places.Section.{Section}
+use Rattle.format.specs.declared.verdict.Verdict.{Verdict}
+use Rattle.format.specs.declared.verdict.Verdict.the-variants.{Pass, Fail}
+use Rattle.format.specs.Sizes.{packageLimit, leadSize}
+use Rattle.format.specs.Places.{sectionEnd}
+use Rattle.format.specs.Lead.{leadOf}
+use Rattle.format.specs.Verdicts.{check, both}
+use Rattle.structure.specs.declared.lookup.Found.{Found}
+use Rattle.structure.specs.Structure.{sectionAt, structureCheck}
+use Rattle.structure.specs.Lookup.{findIn}
+use Rattle.package.specs.declared.sound.Opened.{Opened}
+use Rattle.package.specs.declared.sound.Opened.the-variants.{Sound, Unsound}
+use Rattle.package.specs.declared.sound.Searched.{Searched}
+use Rattle.package.specs.declared.sound.Searched.the-variants.{Within, Refused}
+use Rattle.package.specs.Lead.{leadCheck}
+
+-- 2 | package over 65,536 bytes | 0
+-- 3 | under 96 bytes | the length
+unfoldable pub sizeCheck : ℕ → Verdict
+sizeCheck len =
+    check (leb len packageLimit) 2 0
+    (check (leb leadSize len) 3 len
+    Pass)
+
+-- the first multiple of 8 at or after a place
+abbrev pub alignUp : ℕ → ℕ
+alignUp place = (place + 7) / 8 * 8
+
+-- the signature starts at 96, the header at H, the first multiple of 8 at or after the signature's end
+abbrev pub signatureAt : List ℕ → Section
+signatureAt s = sectionAt s leadSize
+
+abbrev pub headerStart : Section → ℕ
+headerStart signature = alignUp (sectionEnd signature)
+
+abbrev pub headerAt : List ℕ → Section
+headerAt s = sectionAt s (headerStart (signatureAt s))
+
+-- 5 to 13 for the signature, then for the header
+unfoldable pub structuresCheck : List ℕ → ℕ → Verdict
+structuresCheck s len =
+    both (structureCheck s len leadSize) (structureCheck s len (headerStart (signatureAt s)))
+
+-- 2 to 13
+unfoldable pub packageCheck : List ℕ → ℕ → Verdict
+packageCheck s len = both (sizeCheck len) (both (leadCheck (leadOf s)) (structuresCheck s len))
+
+abbrev pub soundCheck : List ℕ → Verdict
+soundCheck s = packageCheck s (length s)
+
+-- structure 0 is the signature, any other number the header
+abbrev pub sectionFor : ℕ → Section → Section → Section
+sectionFor which signature header = cond (eqb which 0) signature header
+
+abbrev pub structureOf : List ℕ → ℕ → Section
+structureOf s which = sectionFor which (signatureAt s) (headerAt s)
+
+-- a package that passed 2 to 13, by its two structures
+abbrev pub openedAs : Verdict → Section → Section → Opened
+openedAs Pass signature header = Sound signature header
+openedAs (Fail number place) signature header = Unsound number place
+
+unfoldable pub opened : List ℕ → Opened
+opened s = openedAs (soundCheck s) (signatureAt s) (headerAt s)
+
+-- the same, with what was looked for in one of them
+abbrev pub searchedAs : Verdict → Section → Section → Found → Searched
+searchedAs Pass signature header found = Within signature header found
+searchedAs (Fail number place) signature header found = Refused number place
+
+abbrev pub structuresSearched : List ℕ → ℕ → ℕ → ℕ → ℕ → Searched
+structuresSearched s len which tag ty =
+    searchedAs (structuresCheck s len) (signatureAt s) (headerAt s) (findIn s (structureOf s which) tag ty)
+
+abbrev pub searched : List ℕ → ℕ → ℕ → ℕ → Searched
+searched s which tag ty =
+    searchedAs (soundCheck s) (signatureAt s) (headerAt s) (findIn s (structureOf s which) tag ty)
