@@ -1,5 +1,5 @@
 -- Bytes and parts at the end of a list: be16-past, be32-past, part-past, part-tail, part-inside.
-use Prim.Native.Nat.{ℕ, _+_, _-_, _*_, _≤_, _<_}
+use Prim.Native.Nat.{ℕ, _+_, _-_, _≤_, _<_}
 use mathlib.Core.Path.{_≡_, sym, _∙_}
 use mathlib.Core.List.{List, []}
 use lib.ListN.{length, getD, take, drop, length-drop, List·getD-eq-default, drop-of-length-le}

@@ -1,6 +1,6 @@
 -- Elements of an entry, for each way through the functions that make them; where they start.
 use Prim.Native.Nat.{ℕ, _+_, _-_, _*_, _≤_, _<_}
-use mathlib.Core.Path.{_≡_, refl, sym, ap, _∙_}
+use mathlib.Core.Path.{_≡_, refl, sym, _∙_}
 use mathlib.Core.List.{List}
 use mathlib.Core.Bool.{Bool, true, false, cond}
 use lib.ListN.{length}
@@ -12,7 +12,6 @@ use Rattle.be.specs.declared.Ending.{Ending}
 use Rattle.be.specs.declared.Ending.the-variants.{Ends, Open}
 use Rattle.be.specs.Strings.{stringsFrom}
 use Rattle.be.proofs.StringLaws.{bound}
-use Rattle.format.specs.declared.places.FileOffset.{FileOffset}
 use Rattle.structure.specs.declared.types.ElementSize.{ElementSize}
 use Rattle.structure.specs.declared.types.ElementSize.the-variants.{Bytes, ToZero, Unlawful}
 use Rattle.structure.specs.declared.lookup.Entry.{Entry}
