@@ -1,0 +1,74 @@
+-- Document 01, "Book" and checks 19 to 22, for the kinds that an edition knows.
+use Prim.Native.Nat.{ℕ, zero, suc, _+_}
+use mathlib.Core.List.{List, [], _∷_}
+use mathlib.Core.Bool.{Bool, true, false, cond, not, _&&_, _||_}
+use lib.ListN.{length, getD}
+use lib.Dec.{leb}
+use Rattle.be.specs.Numbers.{be16At, be32At}
+use Rattle.format.specs.declared.verdict.Verdict.{Verdict}
+use Rattle.format.specs.declared.verdict.Verdict.the-variants.{Pass}
+use Rattle.format.specs.Verdicts.{check, both}
+use Rattle.book.specs.declared.dose.Dose.{Dose}
+use Rattle.book.specs.Kinds.{isWeighed, bodySize}
+
+-- a book is at most 4,096 bytes long, and is held by tag 20001
+abbrev pub bookLimit : ℕ
+bookLimit = 4096
+
+abbrev pub bookTag : ℕ
+bookTag = 20001
+
+abbrev pub kindAt : List ℕ → ℕ → ℕ
+kindAt b at = getD b at 0
+
+-- right behind the body of the record at a place
+abbrev pub recordEnd : List ℕ → ℕ → ℕ
+recordEnd b at = at + 1 + bodySize (kindAt b at)
+
+-- where records start: at 0 and then right behind each body (n bounds how many)
+unfoldable pub placesFrom : List ℕ → ℕ → ℕ → List ℕ
+placesFrom b zero at = []
+placesFrom b (suc n) at = cond (leb (length b) at) [] (at ∷ placesFrom b n (recordEnd b at))
+
+abbrev pub places : List ℕ → List ℕ
+places b = placesFrom b (length b) 0
+
+-- oxide 2, milligrams 4: every weighed body begins with them
+abbrev pub doseAt : List ℕ → ℕ → Dose
+doseAt b at = record { oxide = record { 0 = be16At b (at + 1) }; milligrams = record { 0 = be32At b (at + 3) } }
+
+-- 20 | unknown weighed kind
+abbrev pub kindAllowed : (ℕ → Bool) → ℕ → Bool
+kindAllowed known kind = cond (isWeighed kind) (known kind) true
+
+-- 21 | body passes the book's end
+abbrev pub bodyFits : List ℕ → ℕ → Bool
+bodyFits b at = leb (recordEnd b at) (length b)
+
+-- 22 | oxide or milligrams: oxide is 1 to 999, milligrams 1 to 5,000,000
+unfoldable pub doseLawful : Dose → Bool
+doseLawful dose =
+    leb 1 (dose .oxide .0) && leb (dose .oxide .0) 999 && leb 1 (dose .milligrams .0) && leb (dose .milligrams .0) 5000000
+
+abbrev pub weighedRight : List ℕ → ℕ → Bool
+weighedRight b at = cond (isWeighed (kindAt b at)) (doseLawful (doseAt b at)) true
+
+-- 20 to 22 for the record at a place, which is its kind byte's offset in the book
+unfoldable pub recordCheck : (ℕ → Bool) → List ℕ → ℕ → Verdict
+recordCheck known b at =
+    check (kindAllowed known (kindAt b at)) 20 at
+    (check (bodyFits b at) 21 at
+    (check (weighedRight b at) 22 at
+    Pass))
+
+unfoldable pub recordsCheck : (ℕ → Bool) → List ℕ → List ℕ → Verdict
+recordsCheck known b [] = Pass
+recordsCheck known b (at ∷ rest) = both (recordCheck known b at) (recordsCheck known b rest)
+
+-- 19 | book over 4,096 bytes | 20001
+unfoldable pub lengthCheck : List ℕ → Verdict
+lengthCheck b = check (leb (length b) bookLimit) 19 bookTag Pass
+
+-- 19 to 22
+unfoldable pub bookCheck : (ℕ → Bool) → List ℕ → Verdict
+bookCheck known b = both (lengthCheck b) (recordsCheck known b (places b))

@@ -1,0 +1,57 @@
+-- Document 01, "Book": the doses of a book, which do not depend on the edition, and their numbers in a buffer.
+use Prim.Native.Nat.{ℕ, _+_, _*_, _/_, _%_}
+use mathlib.Core.List.{List, [], _∷_, _++_}
+use mathlib.Core.Path.{_≡_}
+use mathlib.Core.Bool.{Bool, cond}
+use lib.ListN.{length}
+use lib.Seq.{sets}
+use Rattle.format.specs.declared.verdict.Verdict.{Verdict}
+use Rattle.format.specs.declared.verdict.Verdict.the-variants.{Pass, Fail}
+use Rattle.book.specs.declared.dose.Dose.{Dose}
+use Rattle.book.specs.declared.Weighed.{Weighed}
+use Rattle.book.specs.declared.Weighed.the-variants.{Doses, Unsound}
+use Rattle.book.specs.Kinds.{isWeighed, isKnown}
+use Rattle.book.specs.Book.{kindAt, places, doseAt, bookCheck}
+
+-- the (oxide, milligrams) of weighed records, in order
+unfoldable pub dosesOf : List ℕ → List ℕ → List Dose
+dosesOf b [] = []
+dosesOf b (at ∷ rest) = cond (isWeighed (kindAt b at)) (doseAt b at ∷ dosesOf b rest) (dosesOf b rest)
+
+abbrev pub doses : List ℕ → List Dose
+doses b = dosesOf b (places b)
+
+unfoldable pub sumOf : List Dose → ℕ
+sumOf [] = 0
+sumOf (dose ∷ rest) = dose .milligrams .0 + sumOf rest
+
+-- a dose as numbers: oxide then milligrams
+abbrev pub numbersPerDose : ℕ
+numbersPerDose = 2
+
+unfoldable pub numbersOf : List Dose → List ℕ
+numbersOf [] = []
+numbersOf (dose ∷ rest) = dose .oxide .0 ∷ dose .milligrams .0 ∷ numbersOf rest
+
+-- for C: four bytes to a number, big-endian
+abbrev pub bytesOf : ℕ → List ℕ
+bytesOf n = n / 16777216 % 256 ∷ n / 65536 % 256 ∷ n / 256 % 256 ∷ n % 256 ∷ []
+
+unfoldable pub numberBytes : List ℕ → List ℕ
+numberBytes [] = []
+numberBytes (n ∷ rest) = bytesOf n ++ numberBytes rest
+
+-- a buffer with a book's doses at its front, as far as they fit
+abbrev pub withDoses : List ℕ → List ℕ → List ℕ
+withDoses b before = sets before 0 (numbersOf (doses b))
+
+abbrev pub withDoseBytes : List ℕ → List ℕ → List ℕ
+withDoseBytes b before = sets before 0 (numberBytes (numbersOf (doses b)))
+
+-- a book that passed 19 to 22, by the number and the sum of its doses
+abbrev pub weighedAs : Verdict → ℕ → ℕ → Weighed
+weighedAs Pass count sum = Doses count sum
+weighedAs (Fail number place) count sum = Unsound number place
+
+unfoldable pub weighed : ℕ → List ℕ → Weighed
+weighed edition b = weighedAs (bookCheck (isKnown edition) b) (length (doses b)) (sumOf (doses b))

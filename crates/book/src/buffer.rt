@@ -1,0 +1,78 @@
+// Doses in a buffer, as numbers and as bytes.
+ghost use mathlib.Core.Path.{_≡_};
+ghost use Prim.Native.Nat.{ℕ, _<_};
+ghost use lib.ListN.{set};
+ghost use lib.Seq.{sets};
+ghost use Rattle.book.specs.Doses.{bytesOf, withDoses, withDoseBytes};
+use crate::dose::Dose;
+
+// Puts a number at a place of the buffer, where that has it.
+fn put(out: &mut [u32], i: usize, n: u32)
+    ensures { λ r. ⌜ now (out .exit) ≡ set (now (out .entry)) i n ⌝ }
+{
+    if i < out.len() {
+        out[i] = n;
+    }
+}
+
+// Writes a book's doses at the front of a buffer, oxide then milligrams, as far as they fit.
+pub fn write(book: &[u8], out: &mut [u32])
+    ensures { λ r. ⌜ now (out .exit) ≡ withDoses (now (book .entry)) (now (out .entry)) ⌝ }
+{
+    let mut at = 0;
+    let mut i = 0;
+    while at < book.len() {
+        if out.len() <= i {
+            return;
+        }
+        let kind = book[at];
+        if 128 <= kind {
+            let dose = Dose::at(book, at);
+            put(out, i, dose.oxide.0 as u32);
+            put(out, i + 1, dose.milligrams.0);
+            i += 2;
+        }
+        at += 1 + kind as usize % 16;
+    }
+}
+
+// Puts a byte at a place of the buffer, where that has it.
+fn put_byte(out: &mut [u8], i: usize, b: u8)
+    ensures { λ r. ⌜ now (out .exit) ≡ set (now (out .entry)) i b ⌝ }
+{
+    if i < out.len() {
+        out[i] = b;
+    }
+}
+
+// Puts a number's four bytes from a place of the buffer on, as far as that has them.
+fn put_number(out: &mut [u8], i: usize, n: u32)
+    requires { ⌜ i < 9223372036854775808 ⌝ }
+    ensures { λ r. ⌜ now (out .exit) ≡ sets (now (out .entry)) i (bytesOf n) ⌝ }
+{
+    put_byte(out, i, (n / 16777216 % 256) as u8);
+    put_byte(out, i + 1, (n / 65536 % 256) as u8);
+    put_byte(out, i + 2, (n / 256 % 256) as u8);
+    put_byte(out, i + 3, (n % 256) as u8);
+}
+
+// Writes a book's doses at the front of a buffer of bytes, four to a number, big-endian, as far as they fit.
+pub fn write_bytes(book: &[u8], out: &mut [u8])
+    ensures { λ r. ⌜ now (out .exit) ≡ withDoseBytes (now (book .entry)) (now (out .entry)) ⌝ }
+{
+    let mut at = 0;
+    let mut i = 0;
+    while at < book.len() {
+        if out.len() <= i {
+            return;
+        }
+        let kind = book[at];
+        if 128 <= kind {
+            let dose = Dose::at(book, at);
+            put_number(out, i, dose.oxide.0 as u32);
+            put_number(out, i + 4, dose.milligrams.0);
+            i += 8;
+        }
+        at += 1 + kind as usize % 16;
+    }
+}

@@ -1,0 +1,52 @@
+// A dose: an oxide and its weight.
+ghost use mathlib.Core.Path.{_≡_};
+ghost use Rattle.book.specs.Book.{doseAt, doseLawful};
+
+// An oxide's code.
+pub struct Oxide(pub u16);
+
+// A weight in milligrams.
+pub struct Milligrams(pub u32);
+
+pub struct Dose {
+    pub oxide: Oxide,
+    pub milligrams: Milligrams,
+}
+
+impl Dose {
+    pub const OXIDE: usize = 1;
+
+    pub const MILLIGRAMS: usize = 3;
+
+    // The dose of the weighed record at a place of a book.
+    pub fn at(book: &[u8], at: usize) -> Self
+        ensures { λ r. ⌜ r ≡ doseAt (now (book .entry)) at ⌝ }
+    {
+        if book.len() <= at {
+            return Self {
+                oxide: Oxide(0),
+                milligrams: Milligrams(0),
+            };
+        }
+        Self {
+            oxide: Oxide(be::be16(book, at + Self::OXIDE)),
+            milligrams: Milligrams(be::be32(book, at + Self::MILLIGRAMS)),
+        }
+    }
+
+    // Check 22: oxide 1 to 999, milligrams 1 to 5,000,000.
+    pub fn lawful(self) -> bool
+        ensures { λ r. ⌜ r ≡ doseLawful self ⌝ }
+    {
+        if self.oxide.0 < 1 {
+            return false;
+        }
+        if 999 < self.oxide.0 {
+            return false;
+        }
+        if self.milligrams.0 < 1 {
+            return false;
+        }
+        self.milligrams.0 <= 5000000
+    }
+}

@@ -1,0 +1,130 @@
+// A book of recipes: kinds, records and doses over the book's bytes alone. Checks 19 to 22.
+ghost use mathlib.Core.Path.{_≡_};
+ghost use Prim.Native.Nat.{ℕ, _+_, _≤_, _<_};
+ghost use lib.ListN.{length};
+ghost use Rattle.book.specs.Kinds.{isKnown};
+ghost use Rattle.book.specs.Book.{kindAllowed, weighedRight, recordCheck, lengthCheck, recordsCheck, places};
+ghost use Rattle.book.specs.Doses.{doses, sumOf, weighedAs, weighed};
+
+pub mod buffer;
+pub mod dose;
+
+pub use dose::Dose;
+pub use dose::Milligrams;
+pub use dose::Oxide;
+use format::Verdict;
+
+// A book that passed checks 19 to 22, by the number of its doses and the sum of their milligrams, or the first check that
+// failed and its place.
+pub enum Weighed {
+    Doses(u32, u64),
+    Unsound(u32, u32),
+}
+
+// Limits of a book.
+pub struct Book {}
+
+impl Book {
+    pub const LIMIT: usize = 4096;
+
+    pub const TAG: u32 = 20001;
+}
+
+// Whether an edition knows a kind: each kind and the edition that lists it.
+fn known(edition: u32, kind: u8) -> bool
+    ensures { λ r. ⌜ r ≡ isKnown edition kind ⌝ }
+{
+    match kind {
+        0x02 => 1 <= edition,
+        0x86 => 1 <= edition,
+        0x14 => 2 <= edition,
+        0x98 => 2 <= edition,
+        _ => false,
+    }
+}
+
+// Check 20.
+fn kind_allowed(edition: u32, kind: u8) -> bool
+    ensures { λ r. ⌜ r ≡ kindAllowed (isKnown edition) kind ⌝ }
+{
+    if kind < 128 {
+        return true;
+    }
+    known(edition, kind)
+}
+
+// Check 22.
+fn weighed_right(book: &[u8], at: usize) -> bool
+    requires { ⌜ at < length (now book) ⌝ }
+    ensures { λ r. ⌜ r ≡ weighedRight (now (book .entry)) at ⌝ }
+{
+    let kind = book[at];
+    if kind < 128 {
+        return true;
+    }
+    Dose::at(book, at).lawful()
+}
+
+// Checks 20 to 22 for the record at a place.
+fn record_check(edition: u32, book: &[u8], at: usize) -> Verdict
+    requires { ⌜ (at < length (now book)) × (length (now book) ≤ 4096) ⌝ }
+    ensures { λ r. ⌜ r ≡ recordCheck (isKnown edition) (now (book .entry)) at ⌝ }
+{
+    let kind = book[at];
+    if !kind_allowed(edition, kind) {
+        return Verdict::Fail(20, at as u32);
+    }
+    let end = at + 1 + kind as usize % 16;
+    if book.len() < end {
+        return Verdict::Fail(21, at as u32);
+    }
+    if !weighed_right(book, at) {
+        return Verdict::Fail(22, at as u32);
+    }
+    Verdict::Pass
+}
+
+// Check 19.
+fn length_check(book: &[u8]) -> Verdict
+    ensures { λ r. ⌜ r ≡ lengthCheck (now (book .entry)) ⌝ }
+{
+    if Book::LIMIT < book.len() {
+        return Verdict::Fail(19, Book::TAG);
+    }
+    Verdict::Pass
+}
+
+// Checks 20 to 22 for each record in turn, with the number and the sum of the doses.
+fn records(edition: u32, book: &[u8]) -> Weighed
+    requires { ⌜ length (now book) ≤ 4096 ⌝ }
+    ensures { λ r. ⌜ r ≡ weighedAs (recordsCheck (isKnown edition) (now (book .entry)) (places (now (book .entry)))) (length (doses (now (book .entry)))) (sumOf (doses (now (book .entry)))) ⌝ }
+{
+    let mut at = 0;
+    let mut count = 0;
+    let mut sum: u64 = 0;
+    while at < book.len() {
+        let v = record_check(edition, book, at);
+        if let Verdict::Fail(number, place) = v {
+            return Weighed::Unsound(number, place);
+        }
+        let kind = book[at];
+        if 128 <= kind {
+            let dose = Dose::at(book, at);
+            sum += dose.milligrams.0 as u64;
+            count += 1;
+        }
+        at += 1 + kind as usize % 16;
+    }
+    Weighed::Doses(count, sum)
+}
+
+// Checks 19 to 22 at an edition, with the number and the sum of the doses.
+pub fn weigh(edition: u32, book: &[u8]) -> Weighed
+    ensures { λ r. ⌜ r ≡ weighed edition (now (book .entry)) ⌝ }
+{
+    let v = length_check(book);
+    if let Verdict::Fail(number, place) = v {
+        return Weighed::Unsound(number, place);
+    }
+    records(edition, book)
+}
