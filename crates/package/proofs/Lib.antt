@@ -1,5 +1,5 @@
 pub mod OpenLaws
 pub mod SeekLaws
-pub mod ElementLaws
+pub mod PartLaws
 pub mod StepLaws
 pub mod VersionLaws

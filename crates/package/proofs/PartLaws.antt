@@ -1,4 +1,4 @@
--- Elements of an entry, for each way through the functions that make them; where they start.
+-- Elements of an entry as parts of the package, for each way through the functions that make them; where they start.
 use Prim.Native.Nat.{ℕ, _+_, _-_, _*_, _≤_, _<_}
 use mathlib.Core.Path.{_≡_, refl, sym, _∙_}
 use mathlib.Core.List.{List}
