@@ -1,0 +1,126 @@
+-- Document 01, "Numbers the station shows": what look-ups, element look-ups and walks promise, as statements over the
+-- definitions of this crate. Each is proved in proofs/.
+use Prim.Native.Nat.{ℕ, zero, suc, _+_, _*_, _≤_, _<_}
+use mathlib.Core.Path.{_≡_}
+use mathlib.Core.Logic.{_↔_, _≢_}
+use mathlib.Core.List.{List, [], _∷_, _++_}
+use lib.ListN.{length, take, drop}
+use Rattle.be.specs.declared.Ending.the-variants.{Ends}
+use Rattle.be.specs.Strings.{stringsFrom}
+use Rattle.format.specs.declared.places.Section.{Section}
+use Rattle.format.specs.declared.records.IndexRecord.{IndexRecord}
+use Rattle.format.specs.declared.verdict.Verdict.the-variants.{Pass}
+use Rattle.format.specs.declared.verdict.Answer.{Answer}
+use Rattle.format.specs.declared.verdict.Answer.the-variants.{Done, Refused}
+use Rattle.format.specs.Places.{storePlace, sectionEnd}
+use Rattle.format.specs.Verdicts.{numberOf}
+use Rattle.structure.specs.declared.types.ElementSize.the-variants.{Bytes, ToZero}
+use Rattle.structure.specs.declared.lookup.Entry.{Entry}
+use Rattle.structure.specs.Types.{elementSize}
+use Rattle.structure.specs.Entries.{recordAt}
+use Rattle.package.specs.declared.lookup.Sought.the-variants.{Here}
+use Rattle.package.specs.declared.walk.Step.{Step}
+use Rattle.package.specs.Package.{soundCheck, structureOf}
+use Rattle.package.specs.Lookup.{sought, entryBytes, elementOf, findBytes, findAnswer, findElementBytes}
+use Rattle.package.specs.Lookup.{findElementAnswer}
+use Rattle.package.specs.Walk.{stepOf}
+
+-- index record number k of a structure has the tag and the type
+pub record RecordFor (s : List ℕ) (section : Section) (tag ty k : ℕ) : Type 0 where
+  pub within : k < section .nindex
+  pub tagged : recordAt s section k .tag ≡ tag
+  pub typed : recordAt s section k .ty ≡ ty
+
+-- Data is shown exactly when checks 2 to 13 pass and some index record of the structure has the tag and the type.
+abbrev pub LookupExact : Type 0
+LookupExact =
+    (s : List ℕ) (which tag ty : ℕ)
+    → (findBytes s which tag ty ≢ []) ↔ ((soundCheck s ≡ Pass) × (k : ℕ) × RecordFor s (structureOf s which) tag ty k)
+
+-- Otherwise the part is empty, and the answer is the first failing check's, or 25 at 0.
+abbrev pub LookupRefuses : Type 0
+LookupRefuses =
+    (s : List ℕ) (which tag ty : ℕ) → soundCheck s ≡ Pass → ((k : ℕ) → RecordFor s (structureOf s which) tag ty k → ⊥)
+    → (findBytes s which tag ty ≡ []) × (findAnswer s which tag ty ≡ Refused 25 0)
+
+-- what is shown for an index record: the part from the store's start plus the record's own offset, as long as the record's
+-- own extent, which is n × count for a fixed size n, and for strings what count strings in a row take; it is not empty and
+-- lies in the store, which lies in the package; the place is where the part starts
+pub record Shows (s : List ℕ) (section : Section) (e : IndexRecord) (shown : List ℕ) (answer : Answer) : Type 0 where
+  pub extent : ℕ
+  pub fixed : (n : ℕ) → elementSize (e .ty) ≡ Bytes n → extent ≡ n * e .count
+  pub strings : elementSize (e .ty) ≡ ToZero
+      → stringsFrom s extent (storePlace section + e .offset .0) (e .count) ≡ Ends (storePlace section + e .offset .0 + extent)
+  pub some : 1 ≤ extent
+  pub inside : storePlace section + e .offset .0 + extent ≤ sectionEnd section
+  pub fits : sectionEnd section ≤ length s
+  pub part : shown ≡ take extent (drop (storePlace section + e .offset .0) s)
+  pub size : length shown ≡ extent
+  pub place : answer ≡ Done (storePlace section + e .offset .0)
+
+-- For whichever record has the tag and the type, that record's own data is shown, and the answer is 0 with its place.
+abbrev pub LookupShows : Type 0
+LookupShows =
+    (s : List ℕ) (which tag ty k : ℕ) → soundCheck s ≡ Pass → RecordFor s (structureOf s which) tag ty k
+    → Shows s (structureOf s which) (recordAt s (structureOf s which) k) (findBytes s which tag ty) (findAnswer s which tag ty)
+
+-- There is one such record at most: no two of a structure have one tag.
+abbrev pub TagsOnce : Type 0
+TagsOnce =
+    (s : List ℕ) (which j k : ℕ) → soundCheck s ≡ Pass → j < structureOf s which .nindex → k < structureOf s which .nindex
+    → recordAt s (structureOf s which) j .tag ≡ recordAt s (structureOf s which) k .tag → j ≡ k
+
+-- The number is 0 exactly when the part is not empty, so the two calls cannot be confused.
+abbrev pub AnswersAgree : Type 0
+AnswersAgree = (s : List ℕ) (which tag ty : ℕ) → (numberOf (findAnswer s which tag ty) ≡ 0) ↔ (findBytes s which tag ty ≢ [])
+
+abbrev pub ElementAnswersAgree : Type 0
+ElementAnswersAgree =
+    (s : List ℕ) (which tag ty k : ℕ)
+    → (numberOf (findElementAnswer s which tag ty k) ≡ 0) ↔ (findElementBytes s which tag ty k ≢ [])
+
+-- the bytes of n elements of an entry from number k on, in a row
+unfoldable pub elementsFrom : List ℕ → Entry → ℕ → ℕ → List ℕ
+elementsFrom s entry zero k = []
+elementsFrom s entry (suc n) k = entryBytes s (elementOf s entry k) ++ elementsFrom s entry n (k + 1)
+
+-- The elements of an entry that was found, 0 to count − 1 in a row, are its data: none is missing, and they do not overlap.
+abbrev pub ElementsInARow : Type 0
+ElementsInARow =
+    (s : List ℕ) (which tag ty : ℕ) (entry : Entry) → sought s which tag ty ≡ Here entry
+    → elementsFrom s entry (entry .count) 0 ≡ entryBytes s entry
+
+-- what n element look-ups from element k on show, in a row
+unfoldable pub elementsShown : List ℕ → ℕ → ℕ → ℕ → ℕ → ℕ → List ℕ
+elementsShown s which tag ty zero k = []
+elementsShown s which tag ty (suc n) k = findElementBytes s which tag ty k ++ elementsShown s which tag ty n (k + 1)
+
+-- The same of what is shown, with the count of the record that has the tag and the type.
+abbrev pub ElementsShown : Type 0
+ElementsShown =
+    (s : List ℕ) (which tag ty k : ℕ) → soundCheck s ≡ Pass → RecordFor s (structureOf s which) tag ty k
+    → elementsShown s which tag ty (recordAt s (structureOf s which) k .count) 0 ≡ findBytes s which tag ty
+
+-- what a walk has seen after a step: a refused step ends it
+abbrev pub visited : Answer → IndexRecord → List IndexRecord → List IndexRecord
+visited (Done place) found rest = found ∷ rest
+visited (Refused number place) found rest = []
+
+-- the records of at most n steps from a position, each step from the position that the one before handed back
+unfoldable pub walkFrom : List ℕ → ℕ → ℕ → ℕ → List IndexRecord
+walkFrom s which zero position = []
+walkFrom s which (suc n) position =
+    let step = stepOf s which position in
+    visited (step .answer) (step .found) (walkFrom s which n (step .next .number))
+
+-- n index records of a structure from number i on
+unfoldable pub recordsOf : List ℕ → Section → ℕ → ℕ → List IndexRecord
+recordsOf s section zero i = []
+recordsOf s section (suc n) i = recordAt s section i ∷ recordsOf s section n (i + 1)
+
+-- A walk from position 0 that may take enough steps visits every index record once, in order. (That a step's place is its
+-- record's is in `stepOf`.)
+abbrev pub WalkVisitsAll : Type 0
+WalkVisitsAll =
+    (s : List ℕ) (which steps : ℕ) → soundCheck s ≡ Pass → structureOf s which .nindex ≤ steps
+    → walkFrom s which steps 0 ≡ recordsOf s (structureOf s which) (structureOf s which .nindex) 0
