@@ -1,5 +1,6 @@
 -- Each structure of a package that passed checks 2 to 13: structure-fits, record-passed. What a look-up finds is the entry
--- of the record with the tag and the type, and sound: found-of-record, record-of-found, entry-sound.
+-- of the record with the tag and the type, and sound: found-of-record, record-of-found, entry-sound,
+-- found-sound.
 use Prim.Native.Nat.{ℕ, _+_, _*_, _≤_, _<_}
 use mathlib.Core.Path.{_≡_, refl, sym, ap, _∙_}
 use mathlib.Core.List.{List}
@@ -84,3 +85,9 @@ module _ (s : List ℕ) (which tag ty : ℕ) where
       let e = tags-once s (structureOf s which) (g .1) k (record-passed s h which (g .1) (g .2 .within))
               (record-passed s h which k (r .within)) (g .2 .tagged ∙ sym (r .tagged)) in
       f .1 ∙ ap Here (g .3 ∙ ap (entryAt s (structureOf s which)) e)
+
+  pub found-sound : (entry : Entry) → sought s which tag ty ≡ Here entry
+      → SoundEntry s (sectionEnd (structureOf s which)) entry
+  found-sound entry h =
+      let r = record-of-found entry h in
+      rw (r .3) (entry-sound s (r .0) which (r .1) (r .2 .within))
