@@ -3,14 +3,15 @@ use Prim.Native.Nat.{ℕ, zero, suc, _+_, _-_, _*_, _≤_, _<_}
 use mathlib.Core.Path.{_≡_, refl, sym, ap, _∙_}
 use mathlib.Core.List.{List, [], _++_}
 use lib.ListN.{take, drop}
-use lib.Seq.{take-add, drop-drop}
 use native.Mathlib.Omega.{arith}
 use native.Mathlib.Nat.{mul-add}
 use borrow.Author.Tests.{lt-ltb}
 use Rattle.be.specs.declared.Ending.{Ending}
 use Rattle.be.specs.declared.Ending.the-variants.{Ends, Open}
 use Rattle.be.specs.Strings.{stringsFrom}
-use Rattle.be.proofs.StringLaws.{bound, done, split}
+use Rattle.be.proofs.StringLaws.{bound, done}
+use Rattle.be.proofs.ByteLaws.{part-join}
+use Rattle.be.proofs.RowLaws.{string-at}
 use Rattle.format.specs.Places.{sectionEnd}
 use Rattle.structure.specs.declared.types.ElementSize.{ElementSize}
 use Rattle.structure.specs.declared.types.ElementSize.the-variants.{Bytes, ToZero, Unlawful}
@@ -23,10 +24,6 @@ use Rattle.package.specs.Package.{structureOf}
 use Rattle.package.specs.Lookup.{sought, entryBytes, soughtBytes, elementOf, soughtElement, findElementBytes}
 use Rattle.package.specs.Theorems.{elementsFrom, ElementsInARow, elementsShown, ElementsShown}
 use Rattle.package.proofs.FoundLaws.{found-of-record, found-sound}
-
--- a part and the part behind it
-part-join : (s : List ℕ) (from a b : ℕ) → take a (drop from s) ++ take b (drop (from + a) s) ≡ take (a + b) (drop from s)
-part-join s from a b = rw (take-add a b (drop from s), drop-drop a from s)
 
 -- where element k lies from b k to b (k + 1), the elements from k on are the part up to the last
 module _ (s : List ℕ) (entry : Entry) (b : ℕ → ℕ) (starts : (k : ℕ) → k < entry .count → elementOf s entry k .at .0 ≡ b k)
@@ -69,15 +66,6 @@ module _ (s : List ℕ) (entry : Entry) (n : ℕ) (p : elementSize (entry .ty) �
   fixed-row h =
       whole s entry (λ k. entry .at .0 + n * k) (λ k l. fixed-starts k)
       (λ k l. omega (arith, mul-add n k 1, fixed-extent k)) (omega arith) (omega arith)
-
--- string k of a row: where it starts and where it ends
-string-at : (s : List ℕ) (room at k n e : ℕ) → k < n → stringsFrom s room at n ≡ Ends e
-    → (m : ℕ) × (m′ : ℕ) × (stringsFrom s room at k ≡ Ends m) × (stringsFrom s room at (k + 1) ≡ Ends m′)
-    × (stringsFrom s (at + room - m) m 1 ≡ Ends m′)
-string-at s room at k n e l h =
-    let later = split s room at (k + 1) (n - (k + 1)) n e (omega arith) h in
-    let first = split s room at k 1 (k + 1) (later .0) refl (later .1) in
-    (first .0, later .0, first .1, later .1, first .2)
 
 -- strings
 module _ (s : List ℕ) (entry : Entry) (p : elementSize (entry .ty) ≡ ToZero)

@@ -28,7 +28,7 @@ use Rattle.package.specs.declared.lookup.Sought.the-variants.{Here, Refu
 use Rattle.package.specs.Package.{signatureAt, headerStart, headerAt, structuresCheck, packageCheck, soundCheck, structureOf}
 use Rattle.package.specs.Lookup.{soughtAs, sought}
 use Rattle.package.specs.Theorems.{RecordFor}
-use Rattle.package.proofs.TagLaws.{for-true, true-for, tags-once}
+use Rattle.structure.proofs.TagLaws.{for-true, true-for, tags-once}
 
 module _ (s : List ℕ) (h : soundCheck s ≡ Pass) where
   structures-passed : (structureCheck s (length s) leadSize ≡ Pass) × (structureCheck s (length s) (headerStart (signatureAt s)) ≡ Pass)

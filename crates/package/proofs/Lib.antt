@@ -1,5 +1,5 @@
-pub mod TagLaws
 pub mod FoundLaws
 pub mod LookupTheorems
 pub mod WalkLaws
+pub mod NumberLaws
 pub mod ElementLaws

@@ -3,8 +3,9 @@ use Prim.Native.Nat.{ℕ, _+_, _*_, _≤_, _<_}
 use mathlib.Core.Path.{_≡_, refl, sym, ap, _∙_}
 use mathlib.Core.Logic.{_↔_, _≢_}
 use mathlib.Core.List.{List, []}
-use lib.ListN.{length, take, drop, length-take, length-drop}
+use lib.ListN.{length}
 use native.Mathlib.Omega.{arith}
+use Rattle.be.proofs.ByteLaws.{length-part}
 use Rattle.format.specs.declared.verdict.Verdict.the-variants.{Pass}
 use Rattle.format.specs.declared.verdict.Answer.the-variants as answer
 use Rattle.structure.specs.declared.lookup.Entry.{Entry}
@@ -16,15 +17,12 @@ use Rattle.package.specs.declared.lookup.Sought.the-variants.{Here, Refu
 use Rattle.package.specs.Package.{soundCheck, structureOf}
 use Rattle.package.specs.Lookup.{soughtAs, sought, soughtBytes, soughtAnswer, findBytes, findAnswer}
 use Rattle.package.specs.Theorems.{RecordFor, LookupExact, LookupRefuses, Shows, LookupShows, TagsOnce}
-use Rattle.package.proofs.TagLaws as tag
+use Rattle.structure.proofs.TagLaws as tag
 use Rattle.package.proofs.FoundLaws.{structure-fits, record-passed, entry-sound, record-of-found, found-of-record}
 
 pub tags-once : TagsOnce
 tags-once s which j k h l m =
     tag.tags-once s (structureOf s which) j k (record-passed s h which j l) (record-passed s h which k m)
-
-length-part : (s : List ℕ) (from extent : ℕ) → from + extent ≤ length s → length (take extent (drop from s)) ≡ extent
-length-part s from extent h = simp (length-take, length-drop) (omega arith)
 
 pub lookup-shows : LookupShows
 lookup-shows s which tag ty k h r =
