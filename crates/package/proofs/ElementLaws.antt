@@ -5,7 +5,6 @@ use mathlib.Core.List.{List, [], _++_}
 use lib.ListN.{take, drop}
 use native.Mathlib.Omega.{arith}
 use native.Mathlib.Nat.{mul-add}
-use borrow.Author.Tests.{lt-ltb}
 use Rattle.be.specs.declared.Ending.{Ending}
 use Rattle.be.specs.declared.Ending.the-variants.{Ends, Open}
 use Rattle.be.specs.Strings.{stringsFrom}
@@ -21,9 +20,10 @@ use Rattle.structure.specs.Lookup.{extentTo, entryAt}
 use Rattle.structure.specs.Sound.{SoundEntry}
 use Rattle.package.specs.declared.lookup.Sought.the-variants.{Here}
 use Rattle.package.specs.Package.{structureOf}
-use Rattle.package.specs.Lookup.{sought, entryBytes, soughtBytes, elementOf, soughtElement, findElementBytes}
+use Rattle.package.specs.Lookup.{sought, entryBytes, soughtBytes, elementOf}
 use Rattle.package.specs.Theorems.{elementsFrom, ElementsInARow, elementsShown, ElementsShown}
 use Rattle.package.proofs.FoundLaws.{found-of-record, found-sound}
+use Rattle.package.proofs.ElementFound.{element-found}
 
 -- where element k lies from b k to b (k + 1), the elements from k on are the part up to the last
 module _ (s : List ℕ) (entry : Entry) (b : ℕ → ℕ) (starts : (k : ℕ) → k < entry .count → elementOf s entry k .at .0 ≡ b k)
@@ -107,14 +107,10 @@ elements-in-a-row s which tag ty entry h =
 
 -- what element look-ups show of an entry that was found
 module _ (s : List ℕ) (which tag ty : ℕ) (entry : Entry) (h : sought s which tag ty ≡ Here entry) where
-  element-shown : (k : ℕ) → k < entry .count → findElementBytes s which tag ty k ≡ entryBytes s (elementOf s entry k)
-  unfolding soughtElement
-  element-shown k l = rw (h, lt-ltb k (entry .count) l)
-
   shown-row : (n k : ℕ) → n + k ≤ entry .count → elementsShown s which tag ty n k ≡ elementsFrom s entry n k
   unfolding elementsShown elementsFrom
   shown-row zero k l = refl
-  shown-row (suc n) k l = rw (element-shown k (omega arith), shown-row n (k + 1) (omega arith))
+  shown-row (suc n) k l = rw (element-found s which tag ty k entry h (omega arith), shown-row n (k + 1) (omega arith))
 
 pub elements-shown : ElementsShown
 elements-shown s which tag ty k h r =

@@ -1,5 +1,9 @@
 pub mod FoundLaws
-pub mod LookupTheorems
-pub mod WalkLaws
 pub mod NumberLaws
+pub mod ElementSound
+pub mod ElementFound
+pub mod LookupTheorems
+pub mod AnswerTheorems
 pub mod ElementLaws
+pub mod ElementTheorems
+pub mod WalkLaws

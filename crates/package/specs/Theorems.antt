@@ -1,10 +1,10 @@
 -- Document 01, "Numbers the station shows": what look-ups, element look-ups and walks promise, as statements over the
 -- definitions of this crate. Each is proved in proofs/.
-use Prim.Native.Nat.{ℕ, zero, suc, _+_, _*_, _≤_, _<_}
+use Prim.Native.Nat.{ℕ, zero, suc, _+_, _-_, _*_, _≤_, _<_}
 use mathlib.Core.Path.{_≡_}
 use mathlib.Core.Logic.{_↔_, _≢_}
 use mathlib.Core.List.{List, [], _∷_, _++_}
-use lib.ListN.{length, take, drop}
+use lib.ListN.{length, getD, take, drop}
 use Rattle.be.specs.declared.Ending.the-variants.{Ends}
 use Rattle.be.specs.Strings.{stringsFrom}
 use Rattle.format.specs.declared.places.Section.{Section}
@@ -78,6 +78,41 @@ abbrev pub ElementAnswersAgree : Type 0
 ElementAnswersAgree =
     (s : List ℕ) (which tag ty k : ℕ)
     → (numberOf (findElementAnswer s which tag ty k) ≡ 0) ↔ (findElementBytes s which tag ty k ≢ [])
+
+-- An element is shown exactly when the entry is and the element's number is below the record's count.
+abbrev pub ElementExact : Type 0
+ElementExact =
+    (s : List ℕ) (which tag ty k : ℕ)
+    → (findElementBytes s which tag ty k ≢ [])
+    ↔ ((soundCheck s ≡ Pass) × (i : ℕ) × RecordFor s (structureOf s which) tag ty i
+    × (k < recordAt s (structureOf s which) i .count))
+
+-- a single string: its text, in which no byte is zero, and its zero byte
+pub record SingleString (bytes : List ℕ) : Type 0 where
+  pub text : List ℕ
+  pub ended : bytes ≡ text ++ (0 ∷ [])
+  pub nonzero : (i : ℕ) → i < length text → getD text i 0 ≢ 0
+
+-- what is shown for element k of an index record: for a fixed size n the n bytes n × k behind the data's start; for strings
+-- the single string that starts where the k strings before it end; it lies in the store, and the place is where it starts
+pub record ShowsElement (s : List ℕ) (section : Section) (e : IndexRecord) (k : ℕ) (shown : List ℕ) (answer : Answer) : Type 0 where
+  pub from : ℕ
+  pub fixed : (n : ℕ) → elementSize (e .ty) ≡ Bytes n
+      → (from ≡ storePlace section + e .offset .0 + n * k) × (length shown ≡ n)
+  pub strings : elementSize (e .ty) ≡ ToZero
+      → (stringsFrom s (from - (storePlace section + e .offset .0)) (storePlace section + e .offset .0) k ≡ Ends from)
+      × SingleString shown
+  pub inside : from + length shown ≤ sectionEnd section
+  pub part : shown ≡ take (length shown) (drop from s)
+  pub place : answer ≡ Done from
+
+-- For an element number below the count, that element of the record is shown, and the answer is 0 with its place.
+abbrev pub ElementShows : Type 0
+ElementShows =
+    (s : List ℕ) (which tag ty i k : ℕ) → soundCheck s ≡ Pass → RecordFor s (structureOf s which) tag ty i
+    → k < recordAt s (structureOf s which) i .count
+    → ShowsElement s (structureOf s which) (recordAt s (structureOf s which) i) k (findElementBytes s which tag ty k)
+    (findElementAnswer s which tag ty k)
 
 -- the bytes of n elements of an entry from number k on, in a row
 unfoldable pub elementsFrom : List ℕ → Entry → ℕ → ℕ → List ℕ
