@@ -54,11 +54,11 @@ module _ (s : List ℕ) (entry : Entry) (b : ℕ → ℕ) (starts : (k : ℕ) �
 
 -- a fixed size
 module _ (s : List ℕ) (entry : Entry) (n : ℕ) (p : elementSize (entry .ty) ≡ Bytes n) where
-  fixed-starts : (k : ℕ) → elementOf s entry k .at .0 ≡ entry .at .0 + n * k
+  pub fixed-starts : (k : ℕ) → elementOf s entry k .at .0 ≡ entry .at .0 + n * k
   unfolding elementOf
   fixed-starts k = rw p
 
-  fixed-extent : (k : ℕ) → elementOf s entry k .extent ≡ n
+  pub fixed-extent : (k : ℕ) → elementOf s entry k .extent ≡ n
   unfolding elementOf
   fixed-extent k = rw p
 

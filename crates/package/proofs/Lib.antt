@@ -5,5 +5,6 @@ pub mod ElementFound
 pub mod LookupTheorems
 pub mod AnswerTheorems
 pub mod ElementLaws
+pub mod SingleLaws
 pub mod ElementTheorems
 pub mod WalkLaws
