@@ -1,5 +1,5 @@
 -- One string of a row: where it lies (string-at), and its bytes (single-ends, single-text).
-use Prim.Native.Nat.{ℕ, zero, suc, _+_, _-_, _≤_, _<_}
+use Prim.Native.Nat.{ℕ, zero, suc, _+_, _-_, _<_}
 use mathlib.Core.Path.{_≡_, refl}
 use mathlib.Core.List.{List}
 use mathlib.Core.Bool.{Bool, true, false, cond}
@@ -33,13 +33,15 @@ module _ (s : List ℕ) where
       go true t q f = let w : at + 1 ≡ e = cc in let v : e - 1 ≡ at = omega arith in rw v (eqb-true _ _ t)
       go false t q f = f q
 
-  pub single-text : (room at e : ℕ) → stringsFrom s room at 1 ≡ Ends e → (i : ℕ) → at + i + 1 < e → getD s (at + i) 0 ≡ 0 → ⊥
+  pub single-text : (room at e : ℕ) → stringsFrom s room at 1 ≡ Ends e
+      → (i : ℕ) → at + i + 1 < e → getD s (at + i) 0 ≡ 0 → ⊥
   unfolding stringsFrom
   single-text zero at e h i l q = let z : _≡_ {A = ℕ} 0 1 = cc in absurd (omega arith)
   single-text (suc room) at e h i l q = go (eqb (getD s at 0) 0) refl h i l q (single-text room (at + 1) e)
     where
       go : (b : Bool) → eqb (getD s at 0) 0 ≡ b
-          → cond b (stringsFrom s room (at + 1) 0) (stringsFrom s room (at + 1) 1) ≡ Ends e → (i : ℕ) → at + i + 1 < e → getD s (at + i) 0 ≡ 0
+          → cond b (stringsFrom s room (at + 1) 0) (stringsFrom s room (at + 1) 1) ≡ Ends e
+          → (i : ℕ) → at + i + 1 < e → getD s (at + i) 0 ≡ 0
           → (stringsFrom s room (at + 1) 1 ≡ Ends e → (i : ℕ) → at + 1 + i + 1 < e → getD s (at + 1 + i) 0 ≡ 0 → ⊥) → ⊥
       go true t g i l q f = let w : at + 1 ≡ e = cc in omega arith
       go false t g zero l q f = let v : at + 0 ≡ at = omega arith in eqb-false _ _ t (rw v at q)

@@ -11,7 +11,8 @@ module _ (low high : ℕ) {number place : ℕ} where
   pub pass-number : Pass ≡ Fail number place → (low ≤ number) × (number ≤ high)
   pass-number h = let z : _≡_ {A = ℕ} 0 1 = cc in absurd (omega arith)
 
-  pub check-number : (ok : Bool) (n at : ℕ) (rest : Verdict) → check ok n at rest ≡ Fail number place → (low ≤ n) × (n ≤ high)
+  pub check-number : (ok : Bool) (n at : ℕ) (rest : Verdict) → check ok n at rest ≡ Fail number place
+      → (low ≤ n) × (n ≤ high)
       → (rest ≡ Fail number place → (low ≤ number) × (number ≤ high)) → (low ≤ number) × (number ≤ high)
   unfolding check
   check-number true n at rest h p q = q h

@@ -1,7 +1,7 @@
 -- The number is 0 exactly when the part is not empty, theorems of specs/Theorems: answers-agree,
 -- element-answers-agree.
-use Prim.Native.Nat.{ℕ, _+_, _≤_, _<_}
-use mathlib.Core.Path.{_≡_, refl, sym, ap, _∙_}
+use Prim.Native.Nat.{ℕ, _≤_}
+use mathlib.Core.Path.{_≡_, refl, ap, _∙_}
 use mathlib.Core.Logic.{_↔_, _≢_}
 use mathlib.Core.List.{List, []}
 use mathlib.Core.Bool.{Bool, true, false, cond}
@@ -21,13 +21,15 @@ use Rattle.structure.specs.Lookup.{findIn}
 use Rattle.package.specs.declared.lookup.Sought.{Sought}
 use Rattle.package.specs.declared.lookup.Sought.the-variants.{Here, Refused}
 use Rattle.package.specs.Package.{soundCheck, structureOf}
-use Rattle.package.specs.Lookup.{soughtAs, sought, entryBytes, soughtBytes, soughtAnswer, elementOf, elementAs, soughtElement}
+use Rattle.package.specs.Lookup.{soughtAs, sought, entryBytes, soughtBytes, soughtAnswer}
+use Rattle.package.specs.Lookup.{elementOf, elementAs, soughtElement}
 use Rattle.package.specs.Theorems.{AnswersAgree, ElementAnswersAgree}
 use Rattle.package.proofs.NumberLaws.{sound-number}
 use Rattle.package.proofs.FoundLaws.{structure-fits, record-of-found, found-sound}
 use Rattle.package.proofs.ElementFound.{found-element}
 
-pub not-empty : (s : List ℕ) (len : ℕ) (entry : Entry) → len ≤ length s → SoundEntry s len entry → entryBytes s entry ≢ []
+pub not-empty : (s : List ℕ) (len : ℕ) (entry : Entry) → len ≤ length s → SoundEntry s len entry
+    → entryBytes s entry ≢ []
 not-empty s len entry l t q =
     let a = t .inside in
     let b = t .bytes in
@@ -36,7 +38,8 @@ not-empty s len entry l t q =
     omega arith
 
 -- what is sought is sound where it is found, and has a number where it is refused
-agree : (s : List ℕ) (len : ℕ) (x : Sought) → ((entry : Entry) → x ≡ Here entry → (len ≤ length s) × SoundEntry s len entry)
+agree : (s : List ℕ) (len : ℕ) (x : Sought)
+    → ((entry : Entry) → x ≡ Here entry → (len ≤ length s) × SoundEntry s len entry)
     → ((number place : ℕ) → x ≡ Refused number place → 1 ≤ number)
     → (numberOf (soughtAnswer x) ≡ 0) ↔ (soughtBytes s x ≢ [])
 agree s len (Here entry) h k = let t = h entry refl in (λ e. not-empty s len entry (t .0) (t .1), λ e. refl)
@@ -56,7 +59,8 @@ sought-number s which tag ty number place h = go (soundCheck s) refl (findIn s (
 pub answers-agree : AnswersAgree
 answers-agree s which tag ty =
     agree s (sectionEnd (structureOf s which)) (sought s which tag ty)
-    (λ entry h. (structure-fits s (record-of-found s which tag ty entry h .0) which, found-sound s which tag ty entry h))
+    (λ entry h.
+    (structure-fits s (record-of-found s which tag ty entry h .0) which, found-sound s which tag ty entry h))
     (sought-number s which tag ty)
 
 -- check 26
@@ -65,7 +69,8 @@ element-refused : (s : List ℕ) (k : ℕ) (entry : Entry) (number place : ℕ) 
 element-refused s k entry number place true q = let z : _≡_ {A = ℕ} 0 1 = cc in absurd (omega arith)
 element-refused s k entry number place false q = let n : 26 ≡ number = cc in omega arith
 
-element-number : (s : List ℕ) (which tag ty k number place : ℕ) → soughtElement s which tag ty k ≡ Refused number place → 1 ≤ number
+element-number : (s : List ℕ) (which tag ty k number place : ℕ)
+    → soughtElement s which tag ty k ≡ Refused number place → 1 ≤ number
 unfolding soughtElement
 element-number s which tag ty k number place h = go (sought s which tag ty) refl h
   where

@@ -1,12 +1,12 @@
--- The elements of an entry lie in a row and are its data, theorems of specs/Theorems: elements-in-a-row, elements-shown.
+-- The elements of an entry lie in a row and are its data, theorems of specs/Theorems: elements-in-a-row,
+-- elements-shown. Where one of a fixed size lies: fixed-starts, fixed-extent.
 use Prim.Native.Nat.{ℕ, zero, suc, _+_, _-_, _*_, _≤_, _<_}
 use mathlib.Core.Path.{_≡_, refl, sym, ap, _∙_}
-use mathlib.Core.List.{List, [], _++_}
+use mathlib.Core.List.{List}
 use lib.ListN.{take, drop}
 use native.Mathlib.Omega.{arith}
 use native.Mathlib.Nat.{mul-add}
-use Rattle.be.specs.declared.Ending.{Ending}
-use Rattle.be.specs.declared.Ending.the-variants.{Ends, Open}
+use Rattle.be.specs.declared.Ending.the-variants.{Ends}
 use Rattle.be.specs.Strings.{stringsFrom}
 use Rattle.be.proofs.StringLaws.{bound, done}
 use Rattle.be.proofs.ByteLaws.{part-join}
@@ -15,7 +15,7 @@ use Rattle.format.specs.Places.{sectionEnd}
 use Rattle.structure.specs.declared.types.ElementSize.{ElementSize}
 use Rattle.structure.specs.declared.types.ElementSize.the-variants.{Bytes, ToZero, Unlawful}
 use Rattle.structure.specs.declared.lookup.Entry.{Entry}
-use Rattle.structure.specs.Types.{elementSize, isLawful}
+use Rattle.structure.specs.Types.{elementSize}
 use Rattle.structure.specs.Lookup.{extentTo, entryAt}
 use Rattle.structure.specs.Sound.{SoundEntry}
 use Rattle.package.specs.declared.lookup.Sought.the-variants.{Here}
@@ -26,7 +26,8 @@ use Rattle.package.proofs.FoundLaws.{found-of-record, found-sound}
 use Rattle.package.proofs.ElementFound.{element-found}
 
 -- where element k lies from b k to b (k + 1), the elements from k on are the part up to the last
-module _ (s : List ℕ) (entry : Entry) (b : ℕ → ℕ) (starts : (k : ℕ) → k < entry .count → elementOf s entry k .at .0 ≡ b k)
+module _ (s : List ℕ) (entry : Entry) (b : ℕ → ℕ)
+    (starts : (k : ℕ) → k < entry .count → elementOf s entry k .at .0 ≡ b k)
     (ends : (k : ℕ) → k < entry .count → b k + elementOf s entry k .extent ≡ b (k + 1)) where
   rises : (n k : ℕ) → n + k ≡ entry .count → b k ≤ b (entry .count)
   rises zero k e = let f : k ≡ entry .count = omega arith in rw f (omega arith)
@@ -92,7 +93,8 @@ module _ (s : List ℕ) (entry : Entry) (p : elementSize (entry .ty) ≡ ToZero)
       (rw (← done s (entry .extent) (entry .at .0) 0 refl) (omega arith)) (rw h (omega arith))
 
 -- every lawful type
-row-of-size : (s : List ℕ) (len : ℕ) (entry : Entry) → SoundEntry s len entry → (size : ElementSize) → elementSize (entry .ty) ≡ size
+row-of-size : (s : List ℕ) (len : ℕ) (entry : Entry) → SoundEntry s len entry
+    → (size : ElementSize) → elementSize (entry .ty) ≡ size
     → elementsFrom s entry (entry .count) 0 ≡ entryBytes s entry
 row-of-size s len entry t (Bytes n) p = fixed-row s entry n p (t .fixed n p)
 row-of-size s len entry t ToZero p = string-row s entry p (t .strings p)
@@ -103,7 +105,8 @@ row-of-size s len entry t Unlawful p =
 
 pub elements-in-a-row : ElementsInARow
 elements-in-a-row s which tag ty entry h =
-    row-of-size s (sectionEnd (structureOf s which)) entry (found-sound s which tag ty entry h) (elementSize (entry .ty)) refl
+    row-of-size s (sectionEnd (structureOf s which)) entry (found-sound s which tag ty entry h)
+    (elementSize (entry .ty)) refl
 
 -- what element look-ups show of an entry that was found
 module _ (s : List ℕ) (which tag ty : ℕ) (entry : Entry) (h : sought s which tag ty ≡ Here entry) where

@@ -1,6 +1,6 @@
 -- An element of a sound entry is a sound entry of one element: element-sound.
-use Prim.Native.Nat.{ℕ, _+_, _-_, _*_, _≤_, _<_}
-use mathlib.Core.Path.{_≡_, refl, sym, ap, _∙_}
+use Prim.Native.Nat.{ℕ, _+_, _-_, _≤_, _<_}
+use mathlib.Core.Path.{_≡_, refl}
 use mathlib.Core.List.{List}
 use native.Mathlib.Omega.{arith}
 use native.Mathlib.Nat.{mul-add, mul-le-mul-left}
@@ -11,7 +11,7 @@ use Rattle.be.proofs.RowLaws.{string-at}
 use Rattle.structure.specs.declared.types.ElementSize.{ElementSize}
 use Rattle.structure.specs.declared.types.ElementSize.the-variants.{Bytes, ToZero, Unlawful}
 use Rattle.structure.specs.declared.lookup.Entry.{Entry}
-use Rattle.structure.specs.Types.{elementSize, isLawful}
+use Rattle.structure.specs.Types.{elementSize}
 use Rattle.structure.specs.Sound.{SoundEntry}
 use Rattle.structure.proofs.TypeLaws.{bytes-small}
 use Rattle.package.specs.Lookup.{elementFor, elementOf}

@@ -1,7 +1,7 @@
 -- The theorems of specs/Theorems on one element: element-exact, element-shows.
-use Prim.Native.Nat.{ℕ, _+_, _*_, _≤_, _<_}
+use Prim.Native.Nat.{ℕ, _<_}
 use mathlib.Core.Path.{_≡_, refl, ap, _∙_}
-use mathlib.Core.Logic.{_↔_, _≢_}
+use mathlib.Core.Logic.{_≢_}
 use mathlib.Core.List.{List, []}
 use lib.ListN.{length}
 use native.Mathlib.Omega.{arith}
@@ -34,8 +34,10 @@ some-bytes s which tag ty k element h =
     rw h (not-empty s (sectionEnd (structureOf s which)) element (t .0) (t .1))
 
 pub element-exact : ElementExact
-element-exact s which tag ty k =
-    (go (soughtElement s which tag ty k) refl, λ r. some-bytes s which tag ty k _ (element-data s which tag ty (r .1) k (r .0) (r .2) (r .3)))
+element-exact s which tag ty k = (
+  go (soughtElement s which tag ty k) refl,
+  λ r. some-bytes s which tag ty k _ (element-data s which tag ty (r .1) k (r .0) (r .2) (r .3)),
+)
   where
     go : (x : Sought) → soughtElement s which tag ty k ≡ x → soughtBytes s x ≢ []
         → (soundCheck s ≡ Pass) × (i : ℕ) × RecordFor s (structureOf s which) tag ty i
@@ -61,8 +63,10 @@ element-shows s which tag ty i k h r l =
     record {
       from = element .at .0;
       fixed = λ n p. (fixed-starts s entry n p k, q ∙ fixed-extent s entry n p k);
-      strings = λ p.
-          (strings-before s entry k p l (u .strings p), rw f (string-single s entry k p l (u .strings p) (omega arith)));
+      strings = λ p. (
+        strings-before s entry k p l (u .strings p),
+        rw f (string-single s entry k p l (u .strings p) (omega arith)),
+      );
       inside = omega arith;
       part = rw q (ap (soughtBytes s) f);
       place = ap soughtAnswer f;

@@ -1,14 +1,12 @@
--- Each structure of a package that passed checks 2 to 13: structure-fits, record-passed. What a look-up finds is the entry
--- of the record with the tag and the type, and sound: found-of-record, record-of-found, entry-sound,
--- found-sound.
-use Prim.Native.Nat.{ℕ, _+_, _*_, _≤_, _<_}
+-- Each structure of a package that passed checks 2 to 13: structure-fits, record-passed, entry-sound. What a look-up
+-- finds is the entry of the record with the tag and the type, and sound: record-of-found, found-of-record, found-sound.
+use Prim.Native.Nat.{ℕ, _≤_, _<_}
 use mathlib.Core.Path.{_≡_, refl, sym, ap, _∙_}
 use mathlib.Core.List.{List}
 use mathlib.Core.Bool.{Bool, true, false, cond}
 use lib.Dec.{eqb}
 use lib.ListN.{length}
 use native.Mathlib.Omega.{arith}
-use Rattle.format.specs.declared.places.Section.{Section}
 use Rattle.format.specs.declared.verdict.Verdict.{Verdict}
 use Rattle.format.specs.declared.verdict.Verdict.the-variants.{Pass, Fail}
 use Rattle.format.specs.Sizes.{leadSize}
@@ -18,20 +16,21 @@ use Rattle.structure.specs.declared.lookup.Entry.{Entry}
 use Rattle.structure.specs.declared.lookup.Found.{Found}
 use Rattle.structure.specs.declared.lookup.Found.the-variants.{At, Nothing}
 use Rattle.structure.specs.Entries.{recordAt, recordCheck}
-use Rattle.structure.specs.Structure.{sectionAt, structureCheck}
+use Rattle.structure.specs.Structure.{structureCheck}
 use Rattle.structure.specs.Sound.{SoundEntry}
-use Rattle.structure.specs.Lookup.{entryAt, isFor, findIn}
+use Rattle.structure.specs.Lookup.{entryAt}
 use Rattle.structure.proofs.PassLaws.{structure-header, structure-record}
 use Rattle.structure.proofs.SoundLaws.{record-sound, found-record, record-found}
-use Rattle.package.specs.declared.lookup.Sought.{Sought}
-use Rattle.package.specs.declared.lookup.Sought.the-variants.{Here, Refused}
-use Rattle.package.specs.Package.{signatureAt, headerStart, headerAt, structuresCheck, packageCheck, soundCheck, structureOf}
+use Rattle.package.specs.declared.lookup.Sought.the-variants.{Here}
+use Rattle.package.specs.Package.{signatureAt, headerStart, headerAt, structureOf}
+use Rattle.package.specs.Package.{structuresCheck, packageCheck, soundCheck}
 use Rattle.package.specs.Lookup.{soughtAs, sought}
 use Rattle.package.specs.Theorems.{RecordFor}
 use Rattle.structure.proofs.TagLaws.{for-true, true-for, tags-once}
 
 module _ (s : List ℕ) (h : soundCheck s ≡ Pass) where
-  structures-passed : (structureCheck s (length s) leadSize ≡ Pass) × (structureCheck s (length s) (headerStart (signatureAt s)) ≡ Pass)
+  structures-passed : (structureCheck s (length s) leadSize ≡ Pass)
+      × (structureCheck s (length s) (headerStart (signatureAt s)) ≡ Pass)
   unfolding packageCheck structuresCheck
   structures-passed = both-inverted _ _ (both-inverted _ _ (both-inverted _ _ h .1) .1)
 
@@ -45,7 +44,8 @@ module _ (s : List ℕ) (h : soundCheck s ≡ Pass) where
   pub record-passed : (which k : ℕ) → k < structureOf s which .nindex → recordCheck s (structureOf s which) k ≡ Pass
   record-passed which = go (eqb which 0)
     where
-      go : (b : Bool) (k : ℕ) → k < cond b (signatureAt s) (headerAt s) .nindex → recordCheck s (cond b (signatureAt s) (headerAt s)) k ≡ Pass
+      go : (b : Bool) (k : ℕ) → k < cond b (signatureAt s) (headerAt s) .nindex
+          → recordCheck s (cond b (signatureAt s) (headerAt s)) k ≡ Pass
       go true = structure-record s (length s) leadSize (structures-passed .0)
       go false = structure-record s (length s) (headerStart (signatureAt s)) (structures-passed .1)
 
@@ -54,14 +54,16 @@ module _ (s : List ℕ) (h : soundCheck s ≡ Pass) where
       → SoundEntry s (sectionEnd (structureOf s which)) (entryAt s (structureOf s which) k)
   entry-sound which k l = record-sound s _ (structureOf s which) k (omega arith) (record-passed which k l)
 
-sought-here : (v : Verdict) (found : Found) (entry : Entry) → soughtAs v found ≡ Here entry → (v ≡ Pass) × (found ≡ At entry)
+sought-here : (v : Verdict) (found : Found) (entry : Entry) → soughtAs v found ≡ Here entry
+    → (v ≡ Pass) × (found ≡ At entry)
 sought-here Pass (At found) entry h = let e : found ≡ entry = cc in (refl, ap At e)
 sought-here Pass Nothing entry h = let z : _≡_ {A = ℕ} 0 1 = cc in absurd (omega arith)
 sought-here (Fail number place) found entry h = let z : _≡_ {A = ℕ} 0 1 = cc in absurd (omega arith)
 
 module _ (s : List ℕ) (which tag ty : ℕ) where
   pub record-of-found : (entry : Entry) → sought s which tag ty ≡ Here entry
-      → (soundCheck s ≡ Pass) × (k : ℕ) × RecordFor s (structureOf s which) tag ty k × (entry ≡ entryAt s (structureOf s which) k)
+      → (soundCheck s ≡ Pass) × (k : ℕ) × RecordFor s (structureOf s which) tag ty k
+      × (entry ≡ entryAt s (structureOf s which) k)
   unfolding sought
   record-of-found entry h =
       let q = sought-here (soundCheck s) _ entry h in
@@ -73,8 +75,9 @@ module _ (s : List ℕ) (which tag ty : ℕ) where
       → (entry : Entry) × (sought s which tag ty ≡ Here entry)
   unfolding sought
   found-some h k r =
-      let f = record-found s (structureOf s which) tag ty (structureOf s which .nindex) 0 k (omega arith) (omega arith)
-              (true-for tag ty (recordAt s (structureOf s which) k) (r .tagged) (r .typed)) in
+      let t = true-for tag ty (recordAt s (structureOf s which) k) (r .tagged) (r .typed) in
+      let n = structureOf s which .nindex in
+      let f = record-found s (structureOf s which) tag ty n 0 k (omega arith) (omega arith) t in
       (f .0, rw (h, f .1))
 
   pub found-of-record : soundCheck s ≡ Pass → (k : ℕ) → RecordFor s (structureOf s which) tag ty k
@@ -82,8 +85,9 @@ module _ (s : List ℕ) (which tag ty : ℕ) where
   found-of-record h k r =
       let f = found-some h k r in
       let g = record-of-found (f .0) (f .1) in
-      let e = tags-once s (structureOf s which) (g .1) k (record-passed s h which (g .1) (g .2 .within))
-              (record-passed s h which k (r .within)) (g .2 .tagged ∙ sym (r .tagged)) in
+      let p = record-passed s h which (g .1) (g .2 .within) in
+      let q = record-passed s h which k (r .within) in
+      let e = tags-once s (structureOf s which) (g .1) k p q (g .2 .tagged ∙ sym (r .tagged)) in
       f .1 ∙ ap Here (g .3 ∙ ap (entryAt s (structureOf s which)) e)
 
   pub found-sound : (entry : Entry) → sought s which tag ty ≡ Here entry

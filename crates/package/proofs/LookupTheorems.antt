@@ -1,24 +1,24 @@
 -- The theorems of specs/Theorems on look-ups: tags-once, lookup-shows, lookup-exact, lookup-refuses.
-use Prim.Native.Nat.{ℕ, _+_, _*_, _≤_, _<_}
-use mathlib.Core.Path.{_≡_, refl, sym, ap, _∙_}
-use mathlib.Core.Logic.{_↔_, _≢_}
+use Prim.Native.Nat.{ℕ}
+use mathlib.Core.Path.{_≡_, refl, ap, _∙_}
+use mathlib.Core.Logic.{_≢_}
 use mathlib.Core.List.{List, []}
 use lib.ListN.{length}
 use native.Mathlib.Omega.{arith}
 use Rattle.be.proofs.ByteLaws.{length-part}
 use Rattle.format.specs.declared.verdict.Verdict.the-variants.{Pass}
 use Rattle.format.specs.declared.verdict.Answer.the-variants as answer
-use Rattle.structure.specs.declared.lookup.Entry.{Entry}
 use Rattle.structure.specs.declared.lookup.Found.{Found}
 use Rattle.structure.specs.declared.lookup.Found.the-variants.{At, Nothing}
 use Rattle.structure.specs.Lookup.{entryAt, findIn}
 use Rattle.package.specs.declared.lookup.Sought.{Sought}
 use Rattle.package.specs.declared.lookup.Sought.the-variants.{Here, Refused}
 use Rattle.package.specs.Package.{soundCheck, structureOf}
-use Rattle.package.specs.Lookup.{soughtAs, sought, soughtBytes, soughtAnswer, findBytes, findAnswer}
-use Rattle.package.specs.Theorems.{RecordFor, LookupExact, LookupRefuses, Shows, LookupShows, TagsOnce}
+use Rattle.package.specs.Lookup.{soughtAs, sought, soughtBytes, soughtAnswer, findBytes}
+use Rattle.package.specs.Theorems.{RecordFor, LookupExact, LookupRefuses, LookupShows, TagsOnce}
 use Rattle.structure.proofs.TagLaws as tag
-use Rattle.package.proofs.FoundLaws.{structure-fits, record-passed, entry-sound, record-of-found, found-of-record}
+use Rattle.package.proofs.FoundLaws.{structure-fits, record-passed, entry-sound}
+use Rattle.package.proofs.FoundLaws.{record-of-found, found-of-record}
 
 pub tags-once : TagsOnce
 tags-once s which j k h l m =
@@ -38,7 +38,8 @@ lookup-shows s which tag ty k h r =
       inside = t .inside;
       fits = fits;
       part = ap (soughtBytes s) f;
-      size = ap (λ (x : Sought). length (soughtBytes s x)) f ∙ length-part s (entry .at .0) (entry .extent) (omega arith);
+      size =
+          ap (λ (x : Sought). length (soughtBytes s x)) f ∙ length-part s (entry .at .0) (entry .extent) (omega arith);
       place = ap soughtAnswer f;
     }
 

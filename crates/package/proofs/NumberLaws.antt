@@ -35,4 +35,5 @@ module _ {number place : ℕ} where
   pub sound-number : (s : List ℕ) → soundCheck s ≡ Fail number place → (2 ≤ number) × (number ≤ 13)
   unfolding packageCheck
   sound-number s k =
-      both-number 2 13 _ _ k (size-number (length s)) λ k. both-number 2 13 _ _ k (lead-number _) (structures-number s (length s))
+      both-number 2 13 _ _ k (size-number (length s))
+      λ k. both-number 2 13 _ _ k (lead-number _) (structures-number s (length s))

@@ -1,7 +1,7 @@
 -- An element that is a string: it starts where the strings before it end (strings-before), and is a single string
 -- (string-single).
 use Prim.Native.Nat.{ℕ, suc, _+_, _-_, _≤_, _<_}
-use mathlib.Core.Path.{_≡_, refl}
+use mathlib.Core.Path.{_≡_}
 use mathlib.Core.List.{List, [], _∷_, _++_}
 use lib.ListN.{length, take, drop, length-take, length-drop}
 use lib.Seq.{take-suc, getD-take, getD-drop}
@@ -35,7 +35,8 @@ module _ (s : List ℕ) (room at e : ℕ) (h : stringsFrom s room at 1 ≡ Ends 
         ended = single-split;
         nonzero = λ i l q.
             let b : i < e - 1 - at = omega (arith, length-take (e - 1 - at) (drop at s)) in
-            single-text s room at e h i (omega arith) (rw (getD-take (e - 1 - at) (drop at s) i 0 b, getD-drop at s i 0) at q);
+            single-text s room at e h i (omega arith)
+            (rw (getD-take (e - 1 - at) (drop at s) i 0 b, getD-drop at s i 0) at q);
       }
 
 module _ (s : List ℕ) (entry : Entry) (k : ℕ) (p : elementSize (entry .ty) ≡ ToZero) where
@@ -44,11 +45,13 @@ module _ (s : List ℕ) (entry : Entry) (k : ℕ) (p : elementSize (entry .ty) �
   string-starts m h = rw (p, h)
 
   string-bytes : (m m′ : ℕ) → stringsFrom s (entry .extent) (entry .at .0) k ≡ Ends m
-      → stringsFrom s (entry .at .0 + entry .extent - m) m 1 ≡ Ends m′ → take (m′ - m) (drop m s) ≡ entryBytes s (elementOf s entry k)
+      → stringsFrom s (entry .at .0 + entry .extent - m) m 1 ≡ Ends m′
+      → take (m′ - m) (drop m s) ≡ entryBytes s (elementOf s entry k)
   unfolding elementOf
   string-bytes m m′ h q = rw (p, h, q)
 
-  module _ (l : k < entry .count) (h : stringsFrom s (entry .extent) (entry .at .0) (entry .count) ≡ Ends (entry .at .0 + entry .extent)) where
+  module _ (l : k < entry .count)
+      (h : stringsFrom s (entry .extent) (entry .at .0) (entry .count) ≡ Ends (entry .at .0 + entry .extent)) where
     pub strings-before :
         stringsFrom s (elementOf s entry k .at .0 - entry .at .0) (entry .at .0) k ≡ Ends (elementOf s entry k .at .0)
     strings-before =

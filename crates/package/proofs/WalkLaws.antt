@@ -1,17 +1,11 @@
 -- Walking an index, a theorem of specs/Theorems: walk-visits-all.
-use Prim.Native.Nat.{ℕ, zero, suc, _+_, _*_, _≤_, _<_}
-use mathlib.Core.Path.{_≡_, refl, sym, ap, _∙_}
+use Prim.Native.Nat.{ℕ, zero, suc, _+_, _≤_, _<_}
+use mathlib.Core.Path.{_≡_, refl, ap, _∙_}
 use mathlib.Core.List.{List, [], _∷_}
-use mathlib.Core.Bool.{cond}
-use lib.Dec.{ltb}
 use native.Mathlib.Omega.{arith}
 use borrow.Author.Tests.{lt-ltb, le-ltb}
-use Rattle.format.specs.declared.places.Section.{Section}
-use Rattle.format.specs.declared.records.IndexRecord.{IndexRecord}
 use Rattle.format.specs.declared.verdict.Verdict.the-variants.{Pass}
-use Rattle.format.specs.declared.verdict.Answer.the-variants.{Done, Refused}
 use Rattle.structure.specs.Entries.{recordAt}
-use Rattle.package.specs.declared.walk.Step.{Step}
 use Rattle.package.specs.Package.{soundCheck, structureOf}
 use Rattle.package.specs.Walk.{stepIn, stepOf}
 use Rattle.package.specs.Theorems.{visited, walkFrom, recordsOf, WalkVisitsAll}
@@ -33,7 +27,8 @@ module _ (s : List ℕ) (which : ℕ) where
     step-taken position = rw h
 
     walk-step : (n position : ℕ) → position < structureOf s which .nindex
-        → walkFrom s which (suc n) position ≡ recordAt s (structureOf s which) position ∷ walkFrom s which n (position + 1)
+        → walkFrom s which (suc n) position
+        ≡ recordAt s (structureOf s which) position ∷ walkFrom s which n (position + 1)
     walk-step n position l = walk-unrolled n position ∙ rw (step-taken position, lt-ltb _ _ l)
 
     walk-end : (n position : ℕ) → structureOf s which .nindex ≤ position → walkFrom s which (suc n) position ≡ []
@@ -48,7 +43,8 @@ module _ (s : List ℕ) (which : ℕ) where
     walk-records (suc n) zero position l e = walk-end n position (omega arith)
     walk-records (suc n) (suc m) position l e =
         walk-step n position (omega arith)
-        ∙ ap (_∷_ (recordAt s (structureOf s which) position)) (walk-records n m (position + 1) (omega arith) (omega arith))
+        ∙ ap (_∷_ (recordAt s (structureOf s which) position))
+        (walk-records n m (position + 1) (omega arith) (omega arith))
 
 pub walk-visits-all : WalkVisitsAll
 walk-visits-all s which steps h l = walk-records s which h steps (structureOf s which .nindex) 0 l (omega arith)

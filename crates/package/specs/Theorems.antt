@@ -1,5 +1,5 @@
 -- Document 01, "Numbers the station shows": what look-ups, element look-ups and walks promise, as statements over the
--- definitions of this crate. Each is proved in proofs/.
+-- definitions of this crate. Each is proved in proofs/ under its name in small letters: LookupExact as lookup-exact.
 use Prim.Native.Nat.{ℕ, zero, suc, _+_, _-_, _*_, _≤_, _<_}
 use mathlib.Core.Path.{_≡_}
 use mathlib.Core.Logic.{_↔_, _≢_}
@@ -19,7 +19,6 @@ use Rattle.structure.specs.declared.lookup.Entry.{Entry}
 use Rattle.structure.specs.Types.{elementSize}
 use Rattle.structure.specs.Entries.{recordAt}
 use Rattle.package.specs.declared.lookup.Sought.the-variants.{Here}
-use Rattle.package.specs.declared.walk.Step.{Step}
 use Rattle.package.specs.Package.{soundCheck, structureOf}
 use Rattle.package.specs.Lookup.{sought, entryBytes, elementOf, findBytes, findAnswer, findElementBytes}
 use Rattle.package.specs.Lookup.{findElementAnswer}
@@ -37,49 +36,56 @@ LookupExact =
     (s : List ℕ) (which tag ty : ℕ)
     → (findBytes s which tag ty ≢ []) ↔ ((soundCheck s ≡ Pass) × (k : ℕ) × RecordFor s (structureOf s which) tag ty k)
 
--- Otherwise the part is empty, and the answer is the first failing check's, or 25 at 0.
+-- Where checks 2 to 13 pass and no record has them, the part is empty, with number 25 and place 0.
 abbrev pub LookupRefuses : Type 0
 LookupRefuses =
     (s : List ℕ) (which tag ty : ℕ) → soundCheck s ≡ Pass → ((k : ℕ) → RecordFor s (structureOf s which) tag ty k → ⊥)
     → (findBytes s which tag ty ≡ []) × (findAnswer s which tag ty ≡ Refused 25 0)
 
--- what is shown for an index record: the part from the store's start plus the record's own offset, as long as the record's
--- own extent, which is n × count for a fixed size n, and for strings what count strings in a row take; it is not empty and
--- lies in the store, which lies in the package; the place is where the part starts
+-- There is one such record at most: no two records of a structure have the same tag.
+abbrev pub TagsOnce : Type 0
+TagsOnce =
+    (s : List ℕ) (which j k : ℕ) → soundCheck s ≡ Pass
+    → j < structureOf s which .nindex → k < structureOf s which .nindex
+    → recordAt s (structureOf s which) j .tag ≡ recordAt s (structureOf s which) k .tag → j ≡ k
+
+-- where an index record's data starts in the file: the store's start plus the record's own offset
+abbrev pub dataPlace : Section → IndexRecord → ℕ
+dataPlace section e = storePlace section + e .offset .0
+
+-- What is shown for an index record: the part from its data's start, as long as its own extent, which is n × count for
+-- a fixed size n, and what count strings in a row take for strings. It is not empty, and lies in the store, which lies
+-- in the package. The answer is 0 with the place where the part starts.
 pub record Shows (s : List ℕ) (section : Section) (e : IndexRecord) (shown : List ℕ) (answer : Answer) : Type 0 where
   pub extent : ℕ
   pub fixed : (n : ℕ) → elementSize (e .ty) ≡ Bytes n → extent ≡ n * e .count
   pub strings : elementSize (e .ty) ≡ ToZero
-      → stringsFrom s extent (storePlace section + e .offset .0) (e .count) ≡ Ends (storePlace section + e .offset .0 + extent)
+      → stringsFrom s extent (dataPlace section e) (e .count) ≡ Ends (dataPlace section e + extent)
   pub some : 1 ≤ extent
-  pub inside : storePlace section + e .offset .0 + extent ≤ sectionEnd section
+  pub inside : dataPlace section e + extent ≤ sectionEnd section
   pub fits : sectionEnd section ≤ length s
-  pub part : shown ≡ take extent (drop (storePlace section + e .offset .0) s)
+  pub part : shown ≡ take extent (drop (dataPlace section e) s)
   pub size : length shown ≡ extent
-  pub place : answer ≡ Done (storePlace section + e .offset .0)
+  pub place : answer ≡ Done (dataPlace section e)
 
--- For whichever record has the tag and the type, that record's own data is shown, and the answer is 0 with its place.
+-- For whichever record has the tag and the type, that record's own data is shown.
 abbrev pub LookupShows : Type 0
 LookupShows =
     (s : List ℕ) (which tag ty k : ℕ) → soundCheck s ≡ Pass → RecordFor s (structureOf s which) tag ty k
-    → Shows s (structureOf s which) (recordAt s (structureOf s which) k) (findBytes s which tag ty) (findAnswer s which tag ty)
+    → Shows s (structureOf s which) (recordAt s (structureOf s which) k) (findBytes s which tag ty)
+    (findAnswer s which tag ty)
 
--- There is one such record at most: no two of a structure have one tag.
-abbrev pub TagsOnce : Type 0
-TagsOnce =
-    (s : List ℕ) (which j k : ℕ) → soundCheck s ≡ Pass → j < structureOf s which .nindex → k < structureOf s which .nindex
-    → recordAt s (structureOf s which) j .tag ≡ recordAt s (structureOf s which) k .tag → j ≡ k
-
--- The number is 0 exactly when the part is not empty, so the two calls cannot be confused.
+-- The number is 0 exactly when the part is not empty: the two calls agree.
 abbrev pub AnswersAgree : Type 0
-AnswersAgree = (s : List ℕ) (which tag ty : ℕ) → (numberOf (findAnswer s which tag ty) ≡ 0) ↔ (findBytes s which tag ty ≢ [])
+AnswersAgree =
+    (s : List ℕ) (which tag ty : ℕ) → (numberOf (findAnswer s which tag ty) ≡ 0) ↔ (findBytes s which tag ty ≢ [])
 
 abbrev pub ElementAnswersAgree : Type 0
 ElementAnswersAgree =
     (s : List ℕ) (which tag ty k : ℕ)
     → (numberOf (findElementAnswer s which tag ty k) ≡ 0) ↔ (findElementBytes s which tag ty k ≢ [])
 
--- An element is shown exactly when the entry is and the element's number is below the record's count.
+-- Element k is shown exactly when data is and k is below the count of the record that has the tag and the type.
 abbrev pub ElementExact : Type 0
 ElementExact =
     (s : List ℕ) (which tag ty k : ℕ)
@@ -93,20 +99,19 @@ pub record SingleString (bytes : List ℕ) : Type 0 where
   pub ended : bytes ≡ text ++ (0 ∷ [])
   pub nonzero : (i : ℕ) → i < length text → getD text i 0 ≢ 0
 
--- what is shown for element k of an index record: for a fixed size n the n bytes n × k behind the data's start; for strings
--- the single string that starts where the k strings before it end; it lies in the store, and the place is where it starts
-pub record ShowsElement (s : List ℕ) (section : Section) (e : IndexRecord) (k : ℕ) (shown : List ℕ) (answer : Answer) : Type 0 where
+-- What is shown for element k of an index record: for a fixed size n the n bytes from n × k behind the data's start;
+-- for strings the single string that starts where the k strings before it end. It lies in the store. The answer is 0
+-- with the place where it starts.
+pub record ShowsElement (s : List ℕ) (section : Section) (e : IndexRecord) (k : ℕ) (shown : List ℕ) (answer : Answer)
+    : Type 0 where
   pub from : ℕ
-  pub fixed : (n : ℕ) → elementSize (e .ty) ≡ Bytes n
-      → (from ≡ storePlace section + e .offset .0 + n * k) × (length shown ≡ n)
+  pub fixed : (n : ℕ) → elementSize (e .ty) ≡ Bytes n → (from ≡ dataPlace section e + n * k) × (length shown ≡ n)
   pub strings : elementSize (e .ty) ≡ ToZero
-      → (stringsFrom s (from - (storePlace section + e .offset .0)) (storePlace section + e .offset .0) k ≡ Ends from)
-      × SingleString shown
+      → (stringsFrom s (from - dataPlace section e) (dataPlace section e) k ≡ Ends from) × SingleString shown
   pub inside : from + length shown ≤ sectionEnd section
   pub part : shown ≡ take (length shown) (drop from s)
   pub place : answer ≡ Done from
 
--- For an element number below the count, that element of the record is shown, and the answer is 0 with its place.
 abbrev pub ElementShows : Type 0
 ElementShows =
     (s : List ℕ) (which tag ty i k : ℕ) → soundCheck s ≡ Pass → RecordFor s (structureOf s which) tag ty i
@@ -119,7 +124,7 @@ unfoldable pub elementsFrom : List ℕ → Entry → ℕ → ℕ → List ℕ
 elementsFrom s entry zero k = []
 elementsFrom s entry (suc n) k = entryBytes s (elementOf s entry k) ++ elementsFrom s entry n (k + 1)
 
--- The elements of an entry that was found, 0 to count − 1 in a row, are its data: none is missing, and they do not overlap.
+-- The elements of an entry that was found, 0 to count - 1 in a row, are its data: none is missing and none overlaps.
 abbrev pub ElementsInARow : Type 0
 ElementsInARow =
     (s : List ℕ) (which tag ty : ℕ) (entry : Entry) → sought s which tag ty ≡ Here entry
@@ -153,8 +158,8 @@ unfoldable pub recordsOf : List ℕ → Section → ℕ → ℕ → List IndexRe
 recordsOf s section zero i = []
 recordsOf s section (suc n) i = recordAt s section i ∷ recordsOf s section n (i + 1)
 
--- A walk from position 0 that may take enough steps visits every index record once, in order. (That a step's place is its
--- record's is in `stepOf`.)
+-- A walk from position 0, of nindex or more steps, visits every index record once, in order. (`stepOf` itself says that
+-- a step's place is its record's.)
 abbrev pub WalkVisitsAll : Type 0
 WalkVisitsAll =
     (s : List ℕ) (which steps : ℕ) → soundCheck s ≡ Pass → structureOf s which .nindex ≤ steps

@@ -13,12 +13,14 @@ use Rattle.structure.specs.Entries.{entryCheck}
 use Rattle.structure.specs.Structure.{headerCheck, recordsFrom, structureCheck}
 
 module _ {number place : ℕ} where
-  header-number : (len start : ℕ) (h : HeaderRecord) → headerCheck len start h ≡ Fail number place → (5 ≤ number) × (number ≤ 13)
+  header-number : (len start : ℕ) (h : HeaderRecord) → headerCheck len start h ≡ Fail number place
+      → (5 ≤ number) × (number ≤ 13)
   unfolding headerCheck
   header-number len start h k =
       let next = check-number 5 13 in
       next _ _ _ _ k (omega arith) λ k. next _ _ _ _ k (omega arith) λ k. next _ _ _ _ k (omega arith)
-      λ k. next _ _ _ _ k (omega arith) λ k. next _ _ _ _ k (omega arith) λ k. next _ _ _ _ k (omega arith) (pass-number 5 13)
+      λ k. next _ _ _ _ k (omega arith) λ k. next _ _ _ _ k (omega arith)
+      λ k. next _ _ _ _ k (omega arith) (pass-number 5 13)
 
   entry-number : (s : List ℕ) (section : Section) (i at : ℕ) (e : IndexRecord) (end : Ending)
       → entryCheck s section i at e end ≡ Fail number place → (5 ≤ number) × (number ≤ 13)
@@ -36,6 +38,7 @@ module _ {number place : ℕ} where
       both-number 5 13 _ _ k (entry-number _ _ _ _ _ _) (records-number s section n (i + 1))
 
   -- checks 5 to 13
-  pub structure-number : (s : List ℕ) (len start : ℕ) → structureCheck s len start ≡ Fail number place → (5 ≤ number) × (number ≤ 13)
+  pub structure-number : (s : List ℕ) (len start : ℕ) → structureCheck s len start ≡ Fail number place
+      → (5 ≤ number) × (number ≤ 13)
   unfolding structureCheck
   structure-number s len start k = both-number 5 13 _ _ k (header-number _ _ _) (records-number _ _ _ _)

@@ -1,9 +1,8 @@
 -- Index records that passed check 13 have different tags: tags-once. The tag and the type as facts: for-true, true-for.
-use Prim.Native.Nat.{ℕ, zero, suc, _+_, _*_, _≤_, _<_}
+use Prim.Native.Nat.{ℕ, zero, suc, _<_}
 use mathlib.Core.Path.{_≡_, refl, sym, ap, _∙_}
-use mathlib.Core.Logic.{_⊎_, inl, inr, ⊎-elim}
 use mathlib.Core.List.{List}
-use mathlib.Core.Bool.{Bool, true, false, not, _&&_, _||_}
+use mathlib.Core.Bool.{Bool, true, false, _&&_, _||_}
 use lib.Dec.{eqb}
 use native.Mathlib.Omega.{arith}
 use borrow.Author.Tests.{eqb-true, eqb-false, eq-eqb, not-true}
@@ -37,7 +36,9 @@ module _ (s : List ℕ) (section : Section) where
     where
       go : (b : Bool) → eqb j k ≡ b → (j < k → recordAt s section j .tag ≡ tag → tagBefore s section k tag ≡ true)
           → (eqb (recordAt s section k .tag) tag || tagBefore s section k tag) ≡ true
-      go true t f = rw (eq-eqb (recordAt s section k .tag) tag (ap (λ (i : ℕ). recordAt s section i .tag) (sym (eqb-true j k t)) ∙ h))
+      go true t f =
+          let e = ap (λ (i : ℕ). recordAt s section i .tag) (sym (eqb-true j k t)) in
+          rw (eq-eqb (recordAt s section k .tag) tag (e ∙ h))
       go false t f = or-true (eqb (recordAt s section k .tag) tag) (f (let n = eqb-false j k t in omega arith) h)
 
   -- check 13
@@ -50,7 +51,8 @@ module _ (s : List ℕ) (section : Section) where
       let k12 = inverted _ _ _ _ (k11 .1) in
       not-true _ (inverted _ _ _ _ (k12 .1) .0)
 
-  earlier-differs : (j k : ℕ) → j < k → recordCheck s section k ≡ Pass → recordAt s section j .tag ≡ recordAt s section k .tag → ⊥
+  earlier-differs : (j k : ℕ) → j < k → recordCheck s section k ≡ Pass
+      → recordAt s section j .tag ≡ recordAt s section k .tag → ⊥
   earlier-differs j k l p h =
       let e : true ≡ false = sym (tag-before j k _ l h) ∙ tag-new k p in
       let z : _≡_ {A = ℕ} 0 1 = cc in
