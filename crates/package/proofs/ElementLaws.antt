@@ -63,7 +63,7 @@ module _ (s : List ℕ) (entry : Entry) (n : ℕ) (p : elementSize (entry .ty) �
   unfolding elementOf
   fixed-extent k = rw p
 
-  pub fixed-row : entry .extent ≡ n * entry .count → elementsFrom s entry (entry .count) 0 ≡ entryBytes s entry
+  fixed-row : entry .extent ≡ n * entry .count → elementsFrom s entry (entry .count) 0 ≡ entryBytes s entry
   fixed-row h =
       whole s entry (λ k. entry .at .0 + n * k) (λ k l. fixed-starts k)
       (λ k l. omega (arith, mul-add n k 1, fixed-extent k)) (omega arith) (omega arith)
@@ -87,7 +87,7 @@ module _ (s : List ℕ) (entry : Entry) (p : elementSize (entry .ty) ≡ ToZero)
       let q = bound _ _ _ _ _ (t .4) in
       rw (p, t .2, t .3, t .4) (omega arith)
 
-  pub string-row : elementsFrom s entry (entry .count) 0 ≡ entryBytes s entry
+  string-row : elementsFrom s entry (entry .count) 0 ≡ entryBytes s entry
   string-row =
       whole s entry (λ k. extentTo 0 (stringsFrom s (entry .extent) (entry .at .0) k)) string-starts string-ends
       (rw (← done s (entry .extent) (entry .at .0) 0 refl) (omega arith)) (rw h (omega arith))
