@@ -3,3 +3,13 @@ pub mod SeekLaws
 pub mod PartLaws
 pub mod StepLaws
 pub mod VersionLaws
+pub mod FoundLaws
+pub mod NumberLaws
+pub mod ElementSound
+pub mod ElementFound
+pub mod LookupTheorems
+pub mod AnswerTheorems
+pub mod ElementLaws
+pub mod SingleLaws
+pub mod ElementTheorems
+pub mod WalkLaws
