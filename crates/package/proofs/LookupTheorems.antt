@@ -7,7 +7,6 @@ use lib.ListN.{length}
 use native.Mathlib.Omega.{arith}
 use Rattle.be.proofs.ByteLaws.{length-part}
 use Rattle.format.specs.declared.verdict.Verdict.the-variants.{Pass}
-use Rattle.format.specs.declared.verdict.Answer.the-variants as answer
 use Rattle.structure.specs.declared.lookup.Found.{Found}
 use Rattle.structure.specs.declared.lookup.Found.the-variants.{At, Nothing}
 use Rattle.structure.specs.Lookup.{entryAt, findIn}
