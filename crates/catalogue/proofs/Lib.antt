@@ -1,0 +1,2 @@
+pub mod CatalogueLaws
+pub mod LineLaws
