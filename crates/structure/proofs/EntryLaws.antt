@@ -68,17 +68,17 @@ unfolding tagBefore
 step s section tag k = refl
 
 module _ (s : List ℕ) (section : Section) (tag k : ℕ) {v : Bool} (inv : v ≡ tagBefore s section k tag) where
-  pub turn : {r place : ℕ} → place ≡ recordPlace section (k - 1) → r ≡ be32At s place → (r ≡ tag → ⊥) → 0 < k
+  pub turn : {r : ℕ} → r ≡ be32At s (recordPlace section (k - 1)) → (r ≡ tag → ⊥) → 0 < k
       → v ≡ tagBefore s section (k - 1) tag
-  turn p e h l =
+  turn e h l =
       let j : k ≡ suc (k - 1) = omega arith in
-      let f = ne-eqb (be32At s (recordPlace section (k - 1))) tag (λ q. h (rw p at e ∙ q)) in
+      let f = ne-eqb (be32At s (recordPlace section (k - 1))) tag (λ q. h (e ∙ q)) in
       inv ∙ ap (λ (n : ℕ). tagBefore s section n tag) j ∙ step s section tag (k - 1) ∙ rw f
 
-  pub ends : {r place : ℕ} → place ≡ recordPlace section (k - 1) → r ≡ be32At s place → r ≡ tag → 0 < k → true ≡ v
-  ends p e h l =
+  pub ends : {r : ℕ} → r ≡ be32At s (recordPlace section (k - 1)) → r ≡ tag → 0 < k → true ≡ v
+  ends e h l =
       let j : k ≡ suc (k - 1) = omega arith in
-      let f = eq-eqb (be32At s (recordPlace section (k - 1))) tag (sym (rw p at e) ∙ h) in
+      let f = eq-eqb (be32At s (recordPlace section (k - 1))) tag (sym e ∙ h) in
       sym (inv ∙ ap (λ (n : ℕ). tagBefore s section n tag) j ∙ step s section tag (k - 1) ∙ rw f)
 
   pub spent : k ≤ 0 → false ≡ v

@@ -9,10 +9,13 @@ use Rattle.format.specs.declared.places.Section.{Section}
 use Rattle.format.specs.declared.records.IndexRecord.{IndexRecord}
 use Rattle.format.specs.declared.verdict.Verdict.{Verdict}
 use Rattle.format.specs.declared.verdict.Verdict.the-variants.{Pass, Fail}
-use Rattle.format.specs.Places.{inFile}
+use Rattle.be.specs.Numbers.{be32At}
+use Rattle.format.specs.Places.{inFile, recordPlace}
 use Rattle.structure.specs.declared.lookup.Entry.{Entry}
 use Rattle.structure.specs.declared.lookup.Found.{Found}
 use Rattle.structure.specs.declared.lookup.Found.the-variants.{At, Nothing}
+use Rattle.structure.specs.declared.lookup.Tagged.{Tagged}
+use Rattle.structure.specs.declared.lookup.Tagged.the-variants.{Present, Absent}
 use Rattle.structure.specs.declared.checks.Checked.{Checked}
 use Rattle.structure.specs.declared.checks.Checked.the-variants.{Sound, Unsound}
 use Rattle.structure.specs.Entries.{recordAt, dataEnd}
@@ -47,6 +50,20 @@ findFrom s section (suc n) i tag ty =
 
 abbrev pub findIn : List ℕ → Section → ℕ → ℕ → Found
 findIn s section tag ty = findFrom s section (section .nindex) 0 tag ty
+
+-- the first of n index records from number i on that has the tag
+unfoldable pub taggedFrom : List ℕ → Section → ℕ → ℕ → ℕ → Tagged
+taggedFrom s section zero i tag = Absent
+taggedFrom s section (suc n) i tag =
+    cond (eqb (be32At s (recordPlace section i)) tag) (Present (recordAt s section i)) (taggedFrom s section n (i + 1) tag)
+
+abbrev pub taggedIn : List ℕ → Section → ℕ → Tagged
+taggedIn s section tag = taggedFrom s section (section .nindex) 0 tag
+
+-- the entry of a record that was found by its tag
+abbrev pub entryFor : List ℕ → Section → Tagged → Found
+entryFor s section (Present e) = At (entryOf section e (dataEnd s section e))
+entryFor s section Absent = Nothing
 
 -- the first that was found
 abbrev pub orElse : Found → Found → Found

@@ -1,5 +1,7 @@
 // The rules of one index record: checks 9 to 13.
 ghost use mathlib.Core.Path.{_≡_};
+ghost use Rattle.be.specs.Numbers.{be32At};
+ghost use Rattle.format.specs.Places.{recordPlace};
 ghost use Rattle.structure.specs.Entries.{typeLawful, countRight, isAligned, dataEnd, tagBefore, entryCheck};
 use crate::types::ElementSize;
 use crate::types::element_size;
@@ -68,6 +70,14 @@ pub(crate) fn data_end(s: &[u8], section: Section, e: IndexRecord) -> Ending
     }
 }
 
+// The tag of record `i`.
+pub(crate) fn tag_at(s: &[u8], section: Section, i: u32) -> u32
+    ensures { λ r. ⌜ r ≡ be32At (now (s .entry)) (recordPlace section i) ⌝ }
+{
+    let place = section.index_record(i);
+    be::be32(s, place.0)
+}
+
 // Whether one of the first `i` records has the tag (check 13).
 pub(crate) fn tag_before(s: &[u8], section: Section, i: u32, tag: u32) -> bool
     ensures { λ r. ⌜ r ≡ tagBefore (now (s .entry)) section i tag ⌝ }
@@ -75,8 +85,7 @@ pub(crate) fn tag_before(s: &[u8], section: Section, i: u32, tag: u32) -> bool
     let mut k = i;
     while 0 < k {
         k -= 1;
-        let place = section.index_record(k);
-        if be::be32(s, place.0) == tag {
+        if tag_at(s, section, k) == tag {
             return true;
         }
     }

@@ -7,4 +7,5 @@ pub mod types;
 pub use checks::Checked;
 pub use lookup::Entry;
 pub use lookup::Found;
+pub use lookup::Tagged;
 pub use types::ElementSize;

@@ -1,7 +1,8 @@
 // The entry with a tag and a type.
 ghost use mathlib.Core.Path.{_≡_};
-ghost use Rattle.structure.specs.Lookup.{extentTo, entryOf, isFor, findIn, noted};
+ghost use Rattle.structure.specs.Lookup.{extentTo, entryOf, isFor, findIn, noted, taggedIn, entryFor};
 use crate::entries::data_end;
+use crate::entries::tag_at;
 use be::Ending;
 use format::FileOffset;
 use format::IndexRecord;
@@ -19,6 +20,12 @@ pub struct Entry {
 pub enum Found {
     At(Entry),
     Nothing,
+}
+
+// The index record with a tag, where there is one.
+pub enum Tagged {
+    Present(IndexRecord),
+    Absent,
 }
 
 // How many bytes lie between a place and an end.
@@ -94,4 +101,34 @@ pub fn find(s: &[u8], section: Section, tag: u32, ty: u32) -> Found
         i += 1;
     }
     Found::Nothing
+}
+
+// The first index record of a structure that has the tag.
+pub fn find_tag(s: &[u8], section: Section, tag: u32) -> Tagged
+    ensures { λ r. ⌜ r ≡ taggedIn (now (s .entry)) section tag ⌝ }
+{
+    let n = section.nindex;
+    let mut i = 0;
+    while i < n {
+        if tag_at(s, section, i) == tag {
+            let place = section.index_record(i);
+            return Tagged::Present(IndexRecord::at(s, place));
+        }
+        i += 1;
+    }
+    Tagged::Absent
+}
+
+// The entry of a structure that has the tag.
+pub fn find_entry(s: &[u8], section: Section, tag: u32) -> Found
+    ensures { λ r. ⌜ r ≡ entryFor (now (s .entry)) section (taggedIn (now (s .entry)) section tag) ⌝ }
+{
+    let found = find_tag(s, section, tag);
+    match found {
+        Tagged::Present(e) => {
+            let end = data_end(s, section, e);
+            Found::At(entry_of(section, e, end))
+        }
+        Tagged::Absent => Found::Nothing,
+    }
 }

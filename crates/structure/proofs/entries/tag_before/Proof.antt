@@ -1,4 +1,3 @@
--- The records before the ones already seen decide. Assumes nothing.
 use borrow.Author.Needs.{needs}
 use mathlib.Core.Path.{_≡_}
 use Rattle.structure.specs.Entries.{tagBefore}
@@ -18,11 +17,8 @@ loop-holds c = search needs
 sub-k : tie.Need-sub-k Inv-loop μ-loop
 sub-k c = search needs
 
-index-record-requires : tie.Need-index-record-requires Inv-loop μ-loop
-index-record-requires c κs = search needs
-
-be32-requires : tie.Need-be32-requires Inv-loop μ-loop
-be32-requires c κs = search needs
+tag-at-requires : tie.Need-tag-at-requires Inv-loop μ-loop
+tag-at-requires c κs = search needs
 
 returns : tie.Need-returns Inv-loop μ-loop
 returns c = search laws.ends
@@ -44,8 +40,7 @@ tag-before-spec =
     μ-loop
     loop-holds
     sub-k
-    index-record-requires
-    be32-requires
+    tag-at-requires
     returns
     loop-less
     loop-again
