@@ -1,0 +1,45 @@
+// Checks 14 to 18 over a package's two structures.
+ghost use mathlib.Core.Path.{_≡_};
+ghost use Rattle.catalogue.specs.Catalogue.{inEdition};
+ghost use Rattle.rules.specs.Rules.{sizeTagCheck, rulesCheck};
+
+pub mod groups;
+pub mod lines;
+pub mod tags;
+pub mod texts;
+
+use format::Section;
+use format::Verdict;
+
+// Check 16.
+fn size_tag_check(pkg: &[u8], len: u32, signature: Section, header: Section) -> Verdict
+    ensures { λ r. ⌜ r ≡ sizeTagCheck (now (pkg .entry)) len signature header ⌝ }
+{
+    let mut rest = 0;
+    if header.start <= len {
+        rest = len - header.start;
+    }
+    if tags::number(pkg, signature, 1000) != rest {
+        return Verdict::Fail(16, 1000);
+    }
+    Verdict::Pass
+}
+
+// Checks 14 to 18 at an edition, in a package of `len` bytes.
+pub fn check(edition: u32, pkg: &[u8], len: u32, signature: Section, header: Section) -> Verdict
+    ensures { λ r. ⌜ r ≡ rulesCheck (inEdition edition) (now (pkg .entry)) len signature header ⌝ }
+{
+    let v = lines::check(edition, pkg, signature, header);
+    if let Verdict::Fail(number, place) = v {
+        return Verdict::Fail(number, place);
+    }
+    let v = size_tag_check(pkg, len, signature, header);
+    if let Verdict::Fail(number, place) = v {
+        return Verdict::Fail(number, place);
+    }
+    let v = groups::check(pkg, signature, header);
+    if let Verdict::Fail(number, place) = v {
+        return Verdict::Fail(number, place);
+    }
+    texts::check(pkg, header)
+}
