@@ -1,0 +1,5 @@
+pub mod Editions
+pub mod Reading
+pub mod Weighings
+pub mod Buffers
+pub mod Demands

@@ -1,0 +1,71 @@
+-- Document 01, "Numbers the station shows": the reading, checks 1 to 24 in order.
+use Prim.Native.Nat.{ℕ, _*_}
+use mathlib.Core.List.{List}
+use mathlib.Core.Bool.{Bool, cond}
+use lib.ListN.{length}
+use lib.Dec.{eqb, leb}
+use Rattle.format.specs.declared.places.Section.{Section}
+use Rattle.format.specs.declared.verdict.Verdict.{Verdict}
+use Rattle.format.specs.declared.verdict.Verdict.the-variants.{Pass, Fail}
+use Rattle.format.specs.declared.verdict.Answer.{Answer}
+use Rattle.format.specs.declared.verdict.Answer.the-variants.{Done, Refused}
+use Rattle.format.specs.Verdicts.{check, both}
+use Rattle.package.specs.Package.{soundCheck, signatureAt, headerAt}
+use Rattle.rules.specs.Tags.{numberIn}
+use Rattle.rules.specs.Texts.{entryIn, foundBytes}
+use Rattle.rules.specs.Rules.{rulesCheck}
+use Rattle.book.specs.Book.{bookTag, bookCheck}
+use Rattle.book.specs.Doses.{doses, sumOf, numbersPerDose}
+use Rattle.reading.specs.Editions.{Edition, editionOf, hasBatch, batchTag}
+
+-- 1 | edition not 1 or 2 | 0
+unfoldable pub editionCheck : ℕ → Verdict
+editionCheck edition =
+    check (leb 1 edition) 1 0
+    (check (leb edition 2) 1 0
+    Pass)
+
+-- the book: the bytes of the header's 20001
+abbrev pub bookIn : List ℕ → Section → List ℕ
+bookIn s header = foundBytes s (entryIn s header bookTag)
+
+abbrev pub bookOf : List ℕ → List ℕ
+bookOf s = bookIn s (headerAt s)
+
+-- 23 | sum isn't 20002's (edition 2) | 20002
+unfoldable pub sumCheck : Edition → List ℕ → Section → ℕ → Verdict
+sumCheck edition s header sum =
+    cond (hasBatch edition) (check (eqb (numberIn s header batchTag) sum) 23 batchTag Pass) Pass
+
+-- 24 | dose buffer under 2 numbers per dose | numbers needed
+abbrev pub needed : List ℕ → ℕ
+needed book = numbersPerDose * length (doses book)
+
+unfoldable pub roomCheck : ℕ → List ℕ → Verdict
+roomCheck room book = check (leb (needed book) room) 24 (needed book) Pass
+
+-- 19 to 24 for a book
+unfoldable pub bookPart : Edition → List ℕ → Section → ℕ → List ℕ → Verdict
+bookPart edition s header room book =
+    both (bookCheck (edition .known) book) (both (sumCheck edition s header (sumOf (doses book))) (roomCheck room book))
+
+-- 14 to 24 for a package's two structures
+unfoldable pub openedCheck : Edition → List ℕ → Section → Section → ℕ → Verdict
+openedCheck edition s signature header room =
+    both (rulesCheck (edition .hasLine) s (length s) signature header) (bookPart edition s header room (bookIn s header))
+
+-- 2 to 24 at an edition
+unfoldable pub checksAt : Edition → List ℕ → ℕ → Verdict
+checksAt edition s room = both (soundCheck s) (openedCheck edition s (signatureAt s) (headerAt s) room)
+
+-- 1 to 24, with room for so many numbers
+unfoldable pub readingCheck : ℕ → List ℕ → ℕ → Verdict
+readingCheck edition s room = both (editionCheck edition) (checksAt (editionOf edition) s room)
+
+-- success is 0 with the dose count as its place
+abbrev pub answerAs : Verdict → ℕ → Answer
+answerAs Pass count = Done count
+answerAs (Fail number place) count = Refused number place
+
+abbrev pub readAnswer : ℕ → List ℕ → ℕ → Answer
+readAnswer edition s room = answerAs (readingCheck edition s room) (length (doses (bookOf s)))

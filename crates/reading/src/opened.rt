@@ -1,0 +1,92 @@
+// Checks 14 to 24 over a package's two structures.
+ghost use mathlib.Core.Path.{_≡_};
+ghost use Prim.Native.Nat.{ℕ, _≤_};
+ghost use lib.ListN.{length};
+ghost use Rattle.book.specs.Doses.{doses};
+ghost use Rattle.reading.specs.Editions.{editionOf};
+ghost use Rattle.reading.specs.Reading.{bookIn, sumCheck, bookPart, openedCheck};
+ghost use Rattle.reading.specs.Weighings.{weighingAs};
+use book::Book;
+use book::Weighed;
+use catalogue::Line;
+use format::Section;
+use format::Verdict;
+use structure::Found;
+
+// The dose count of a package that passed its checks, or the first check that failed and its place.
+pub enum Weighing {
+    Doses(u32),
+    Refused(u32, u32),
+}
+
+// The batch weight's tag and line.
+pub struct Batch {}
+
+impl Batch {
+    pub const TAG: u32 = 20002;
+
+    pub const LINE: usize = 81;
+}
+
+// The book of a header: the bytes of its 20001.
+pub(crate) fn book_part(pkg: &[u8], header: Section) -> &[u8]
+    ensures { λ r. ⌜ now r ≡ bookIn (now (pkg .entry)) header ⌝ }
+{
+    let found = structure::lookup::find_entry(pkg, header, Book::TAG);
+    match found {
+        Found::At(entry) => be::part(pkg, entry.at.0, entry.extent),
+        Found::Nothing => &pkg[..0],
+    }
+}
+
+// Check 23, for the sum of a book's doses.
+fn sum_check(edition: u32, pkg: &[u8], header: Section, sum: u64) -> Verdict
+    ensures { λ r. ⌜ r ≡ sumCheck (editionOf edition) (now (pkg .entry)) header sum ⌝ }
+{
+    if !Line::at(Batch::LINE).in_edition(edition) {
+        return Verdict::Pass;
+    }
+    if rules::tags::number(pkg, header, Batch::TAG) as u64 == sum {
+        return Verdict::Pass;
+    }
+    Verdict::Fail(23, Batch::TAG)
+}
+
+// Checks 19 to 24 for a book.
+fn weigh_book(edition: u32, pkg: &[u8], header: Section, room: usize, bytes: &[u8]) -> Weighing
+    ensures { λ r. ⌜ r ≡ weighingAs (bookPart (editionOf edition) (now (pkg .entry)) header room (now (bytes .entry))) (length (doses (now (bytes .entry)))) ⌝ }
+{
+    let w = book::weigh(edition, bytes);
+    match w {
+        Weighed::Unsound(number, place) => Weighing::Refused(number, place),
+        Weighed::Doses(count, sum) => {
+            let v = sum_check(edition, pkg, header, sum);
+            if let Verdict::Fail(number, place) = v {
+                return Weighing::Refused(number, place);
+            }
+            let needed = 2 * count as usize;
+            if room < needed {
+                return Weighing::Refused(24, needed as u32);
+            }
+            Weighing::Doses(count)
+        }
+    }
+}
+
+// Checks 14 to 24 for a package's two structures.
+pub(crate) fn weigh(
+    edition: u32,
+    pkg: &[u8],
+    signature: Section,
+    header: Section,
+    room: usize,
+) -> Weighing
+    requires { ⌜ length (now pkg) ≤ 65536 ⌝ }
+    ensures { λ r. ⌜ r ≡ weighingAs (openedCheck (editionOf edition) (now (pkg .entry)) signature header room) (length (doses (bookIn (now (pkg .entry)) header))) ⌝ }
+{
+    let v = rules::check(edition, pkg, pkg.len() as u32, signature, header);
+    if let Verdict::Fail(number, place) = v {
+        return Weighing::Refused(number, place);
+    }
+    weigh_book(edition, pkg, header, room, book_part(pkg, header))
+}
