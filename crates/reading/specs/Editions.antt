@@ -1,7 +1,8 @@
 -- Document 01: an edition is the catalogue lines that it has and the kinds that it knows. Edition 2 keeps edition 1's.
 use Prim.Native.Nat.{ℕ}
 use mathlib.Core.Path.{_≡_}
-use mathlib.Core.Bool.{Bool, true}
+use mathlib.Core.Bool.{Bool, true, _||_}
+use lib.Dec.{eqb}
 use Rattle.catalogue.specs.declared.Line.{Line}
 use Rattle.catalogue.specs.Catalogue.{inEdition, lineAt}
 use Rattle.book.specs.Kinds.{isKnown}
@@ -22,6 +23,10 @@ batchLine = 81
 
 abbrev pub hasBatch : Edition → Bool
 hasBatch edition = (edition .hasLine) (lineAt batchLine)
+
+-- a line of edition 1, or that of the batch weight
+abbrev pub oldOrBatch : Line → Bool
+oldOrBatch line = inEdition 1 line || eqb (line .tag) batchTag
 
 -- a later edition that keeps an earlier one's lines and kinds
 pub record Extends (earlier later : Edition) : Type 0 where

@@ -2,4 +2,3 @@ pub mod Editions
 pub mod Reading
 pub mod Weighings
 pub mod Buffers
-pub mod Demands

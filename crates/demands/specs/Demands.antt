@@ -1,19 +1,22 @@
 -- The letter's demands, as statements over the reading. Each is proved in proofs/ under its name in small letters.
-use Prim.Native.Nat.{ℕ}
+use Prim.Native.Nat.{ℕ, _≤_}
 use mathlib.Core.Path.{_≡_}
-use mathlib.Core.Logic.{_⊎_}
+use mathlib.Core.Logic.{_⊎_, _↔_}
 use mathlib.Core.List.{List, [], _∷_, _++_}
-use mathlib.Core.Bool.{Bool, cond, not, _&&_}
+use mathlib.Core.Bool.{Bool, true, false, cond, not, _&&_}
 use lib.ListN.{length, drop}
+use Rattle.format.specs.declared.verdict.Verdict.{Verdict}
+use Rattle.format.specs.declared.verdict.Verdict.the-variants.{Pass, Fail}
 use Rattle.format.specs.declared.verdict.Answer.{Answer}
 use Rattle.format.specs.declared.verdict.Answer.the-variants.{Done, Refused}
-use Rattle.catalogue.specs.declared.Line.{Line}
+use Rattle.catalogue.specs.Catalogue.{lineAt}
 use Rattle.book.specs.Kinds.{isWeighed}
 use Rattle.book.specs.Book.{kindAt, places}
 use Rattle.book.specs.Doses.{doses, numbersOf}
-use Rattle.reading.specs.Editions.{Edition, editionOf, batchTag}
-use Rattle.reading.specs.Reading.{bookOf, readAnswer}
+use Rattle.reading.specs.Editions.{Edition, Extends, editionOf, batchTag, batchLine}
+use Rattle.reading.specs.Reading.{bookOf, needed, checksAt, readAnswer}
 use Rattle.reading.specs.Buffers.{bufferAfter}
+use Rattle.demands.specs.Lawful.{LawfulPackage}
 
 -- Demand 1: "A refused reading changes no number of the dose buffer; an accepted one writes its doses at the front and nothing
 -- behind them." (`readAnswer` is the number and place of the first check that fails, in document 01's order.)
@@ -29,8 +32,15 @@ AcceptedWrites =
     × (bufferAfter edition s before
     ≡ numbersOf (doses (bookOf s)) ++ drop (length (numbersOf (doses (bookOf s)))) before)
 
+-- Demand 2: "With a known edition and room for the doses, a package is accepted exactly when it obeys the LSB package format and
+-- our book rules as document 01 fixes them." (The doses are those that the book's records state, in order: `doses`.)
+abbrev pub Demand2 : Type 0
+Demand2 =
+    (edition : ℕ) (s before : List ℕ) → 1 ≤ edition → edition ≤ 2 → needed (bookOf s) ≤ length before
+    → (readAnswer edition s (length before) ≡ Done (length (doses (bookOf s)))) ↔ LawfulPackage (editionOf edition) s
+
 -- the records of a book whose weighed kind an edition lacks: the first of them, where there is one
-data Lacking : Type 0 where
+pub data Lacking : Type 0 where
   First : ℕ → Lacking
   NoneLacks : Lacking
 
@@ -43,6 +53,31 @@ firstLacking known b (at ∷ rest) = cond (lacks known (kindAt b at)) (First at)
 
 abbrev pub lackingIn : Edition → List ℕ → Lacking
 lackingIn edition b = firstLacking (edition .known) b (places b)
+
+-- Demand 3 in general: an earlier and a later edition that extends it. A line that the later edition adds:
+pub record Adds (earlier later : Edition) (i : ℕ) : Type 0 where
+  pub without : (earlier .hasLine) (lineAt i) ≡ false
+  pub with′ : (later .hasLine) (lineAt i) ≡ true
+
+-- a refusal that an added line explains: 14 or 15 with its tag as the place, or 23 with 20002 where that line is added
+abbrev pub ByAdded : Edition → Edition → Verdict → Type 0
+ByAdded earlier later v =
+    ((i : ℕ) × Adds earlier later i × ((v ≡ Fail 14 (lineAt i .tag)) ⊎ (v ≡ Fail 15 (lineAt i .tag))))
+    ⊎ (Adds earlier later batchLine × (v ≡ Fail 23 batchTag))
+
+-- how the two verdicts on one package, with one room, relate
+pub record VerdictsAgree (earlier later : Edition) (s : List ℕ) (room : ℕ) : Type 0 where
+  pub acceptedLacks : (place : ℕ) → checksAt later s room ≡ Pass → lackingIn earlier (bookOf s) ≡ First place
+      → checksAt earlier s room ≡ Fail 20 place
+  pub acceptedBoth : checksAt later s room ≡ Pass → lackingIn earlier (bookOf s) ≡ NoneLacks → checksAt earlier s room ≡ Pass
+  pub laterRefuses : (number place : ℕ) → checksAt earlier s room ≡ Pass → checksAt later s room ≡ Fail number place
+      → ByAdded earlier later (checksAt later s room)
+  pub bothRefuse : (number place number′ place′ : ℕ) → checksAt earlier s room ≡ Fail number place
+      → checksAt later s room ≡ Fail number′ place′
+      → (checksAt earlier s room ≡ checksAt later s room) ⊎ (number ≡ 20) ⊎ ByAdded earlier later (checksAt later s room)
+
+abbrev pub ExtendingAgrees : Type 0
+ExtendingAgrees = (earlier later : Edition) → Extends earlier later → (s : List ℕ) (room : ℕ) → VerdictsAgree earlier later s room
 
 -- a refusal that the later edition's batch weight explains: "14, 15 or 23, and its place is the batch-weight tag 20002"
 abbrev pub ByBatch : Answer → Type 0

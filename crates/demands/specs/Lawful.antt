@@ -1,0 +1,194 @@
+-- What document 01 says a right package is, section by section: no order and no numbers of checks.
+use Prim.Native.Nat.{ℕ, zero, suc, _+_, _-_, _*_, _%_, _≤_, _<_}
+use mathlib.Core.Path.{_≡_}
+use mathlib.Core.Logic.{_⊎_, _≢_}
+use mathlib.Core.List.{List, _∷_, [], _++_}
+use mathlib.Core.Bool.{Bool, true, false, cond}
+use lib.ListN.{length, getD, take, drop}
+use lib.Dec.{eqb}
+use Rattle.be.specs.Numbers.{be16At, be32At}
+use Rattle.format.specs.declared.places.Section.{Section}
+use Rattle.format.specs.declared.records.IndexRecord.{IndexRecord}
+use Rattle.format.specs.Sizes.{packageLimit, leadSize}
+use Rattle.format.specs.Places.{storePlace, inFile}
+use Rattle.format.specs.Records.{headerRecordAt}
+use Rattle.structure.specs.declared.types.ElementSize.the-variants.{Bytes, ToZero}
+use Rattle.structure.specs.declared.lookup.Entry.{Entry}
+use Rattle.structure.specs.Types.{elementSize}
+use Rattle.structure.specs.Entries.{recordAt}
+use Rattle.structure.specs.Structure.{sectionAt}
+use Rattle.structure.specs.Sound.{SoundHeader}
+use Rattle.structure.specs.Lookup.{entryAt}
+use Rattle.package.specs.Package.{headerStart, signatureAt, headerAt}
+use Rattle.catalogue.specs.declared.Line.{Line}
+use Rattle.catalogue.specs.Catalogue.{lineAt, signatureCount, lineCount}
+use Rattle.rules.specs.Groups.{fileTags}
+use Rattle.rules.specs.Texts.{linux, binSh}
+use Rattle.book.specs.Kinds.{isWeighed}
+use Rattle.book.specs.Book.{bookLimit, kindAt, recordEnd, places, doseAt}
+use Rattle.book.specs.Doses.{doses, sumOf}
+use Rattle.reading.specs.Editions.{Edition, batchTag, hasBatch}
+use Rattle.reading.specs.Reading.{bookOf}
+
+-- "Lead": bytes 0-3 are ED AB EE DB; 4 is 3; 5 is 0; 6-7 (type) are 0; 10-75 (name) hold at least one zero byte; 76-77
+-- (system) are 1; 78-79 (signature type) are 5
+pub record LawfulLead (s : List ℕ) : Type 0 where
+  pub magic : be32At s 0 ≡ 0xEDABEEDB
+  pub major : getD s 4 0 ≡ 3
+  pub minor : getD s 5 0 ≡ 0
+  pub type′ : be16At s 6 ≡ 0
+  pub name : (i : ℕ) × (10 ≤ i) × (i ≤ 75) × (getD s i 0 ≡ 0)
+  pub system : be16At s 76 ≡ 1
+  pub signatureType : be16At s 78 ≡ 5
+
+-- how many of n bytes from a place on are zero
+unfoldable pub zerosFrom : List ℕ → ℕ → ℕ → ℕ
+zerosFrom s zero at = 0
+zerosFrom s (suc n) at = cond (eqb (getD s at 0) 0) 1 0 + zerosFrom s n (at + 1)
+
+-- "Header structure": an index record
+pub record LawfulRecord (s : List ℕ) (section : Section) (e : IndexRecord) : Type 0 where
+  -- types 0, 5 and 10 upward are refused
+  pub type′ : (1 ≤ e .ty) × (e .ty ≢ 5) × (e .ty ≤ 9)
+  -- count is at least 1, and exactly 1 for types 6 and 9
+  pub count : 1 ≤ e .count
+  pub single : (e .ty ≡ 6) ⊎ (e .ty ≡ 9) → e .count ≡ 1
+  -- offset is a multiple of the alignment, which is the element size
+  pub aligned : (n : ℕ) → elementSize (e .ty) ≡ Bytes n → e .offset .0 % n ≡ 0
+  -- data of a fixed size is size × count bytes from offset and ends at or before hsize
+  pub fixed : (n : ℕ) → elementSize (e .ty) ≡ Bytes n → e .offset .0 + n * e .count ≤ section .hsize
+  -- string data is count strings in a row, each ended by a zero byte inside the store
+  pub strings : elementSize (e .ty) ≡ ToZero
+      → e .count ≤ zerosFrom s (section .hsize - e .offset .0) (inFile section (e .offset))
+
+-- a structure in the package: its header record, its records, and within one structure no tag occurs twice
+pub record LawfulStructure (s : List ℕ) (start : ℕ) : Type 0 where
+  pub header : SoundHeader (length s) start (headerRecordAt s start)
+  pub records : (i : ℕ) → i < sectionAt s start .nindex → LawfulRecord s (sectionAt s start) (recordAt s (sectionAt s start) i)
+  pub tags : (i j : ℕ) → i < sectionAt s start .nindex → j < i
+      → recordAt s (sectionAt s start) j .tag ≢ recordAt s (sectionAt s start) i .tag
+
+-- some record of a structure has a tag
+abbrev pub HasTag : List ℕ → Section → ℕ → Type 0
+HasTag s section tag = (i : ℕ) × (i < section .nindex) × (recordAt s section i .tag ≡ tag)
+
+-- every record of a structure that has a tag is as a rule says
+abbrev pub WhereTagged : List ℕ → Section → ℕ → (IndexRecord → Type 0) → Type 0
+WhereTagged s section tag Rule = (i : ℕ) → i < section .nindex → recordAt s section i .tag ≡ tag → Rule (recordAt s section i)
+
+abbrev pub HasCount : List ℕ → Section → ℕ → ℕ → Type 0
+HasCount s section tag n = WhereTagged s section tag (λ (e : IndexRecord). e .count ≡ n)
+
+-- two tags of a structure, where both are present, have one count
+abbrev pub SameCount : List ℕ → Section → ℕ → ℕ → Type 0
+SameCount s section tag other = WhereTagged s section other (λ (e : IndexRecord). HasCount s section tag (e .count))
+
+-- "Catalogue": "Required" must be present; a blank count (0) is any, a printed one is exact
+pub record LawfulLine (s : List ℕ) (section : Section) (line : Line) : Type 0 where
+  pub required : 1 ≤ line .status → HasTag s section (line .tag)
+  pub type′ : WhereTagged s section (line .tag) (λ (e : IndexRecord). e .ty ≡ line .ty)
+  pub count : line .count ≢ 0 → HasCount s section (line .tag) (line .count)
+
+abbrev pub LawfulLines : Edition → List ℕ → Type 0
+LawfulLines edition s =
+    ((i : ℕ) → i < signatureCount → (edition .hasLine) (lineAt i) ≡ true → LawfulLine s (signatureAt s) (lineAt i))
+    × ((i : ℕ) → signatureCount ≤ i → i < lineCount → (edition .hasLine) (lineAt i) ≡ true → LawfulLine s (headerAt s) (lineAt i))
+
+-- "Groups": one tag needs another
+abbrev pub Needs : List ℕ → Section → ℕ → ℕ → Type 0
+Needs s section tag other = HasTag s section tag → HasTag s section other
+
+-- all or none of three tags present, counts equal to the leader's
+pub record LawfulLed (s : List ℕ) (header : Section) (leader a b c : ℕ) : Type 0 where
+  pub whole : HasTag s header a ⊎ HasTag s header b ⊎ HasTag s header c
+      → (HasTag s header a × HasTag s header b × HasTag s header c)
+  pub counts : SameCount s header a leader × SameCount s header b leader × SameCount s header c leader
+
+-- a rule for each of some tags
+abbrev pub Each : List ℕ → (ℕ → Type 0) → Type 0
+Each [] Rule = Unit
+Each (tag ∷ rest) Rule = Rule tag × Each rest Rule
+
+pub record LawfulGroups (s : List ℕ) (signature header : Section) : Type 0 where
+  -- the signature's 1011 needs its 1005; its 1012 needs its 1002
+  pub dsa : Needs s signature 1011 1005
+  pub rsa : Needs s signature 1012 1002
+  -- 1023 to 1026 need 1085 to 1088 respectively
+  pub preInstall : Needs s header 1023 1085
+  pub postInstall : Needs s header 1024 1086
+  pub preRemove : Needs s header 1025 1087
+  pub postRemove : Needs s header 1026 1088
+  -- with N the count of 1028: each of these that is present has count N
+  pub files : Each fileTags (λ (tag : ℕ). SameCount s header tag 1028)
+  -- if 1027 is present its count is N and none of 1116 to 1118 is present
+  pub oldNames : HasTag s header 1027
+      → (SameCount s header 1027 1028)
+      × (HasTag s header 1116 → ⊥) × (HasTag s header 1117 → ⊥) × (HasTag s header 1118 → ⊥)
+  -- otherwise those three are present and 1116 and 1117 have count N
+  pub newNames : (HasTag s header 1027 → ⊥)
+      → HasTag s header 1116 × HasTag s header 1117 × HasTag s header 1118
+      × SameCount s header 1116 1028 × SameCount s header 1117 1028
+  -- the groups led by 1049 (1048, 1050), 1047 (1112, 1113), 1054 (1053, 1055), 1090 (1114, 1115) and 1081 (1080, 1082)
+  pub requires : LawfulLed s header 1049 1048 1049 1050
+  pub provides : LawfulLed s header 1047 1047 1112 1113
+  pub conflicts : LawfulLed s header 1054 1053 1054 1055
+  pub obsoletes : LawfulLed s header 1090 1090 1114 1115
+  pub changes : LawfulLed s header 1081 1080 1081 1082
+
+-- the data of every record that has a tag
+abbrev pub DataIs : List ℕ → Section → ℕ → (Entry → Type 0) → Type 0
+DataIs s section tag Rule = (i : ℕ) → i < section .nindex → recordAt s section i .tag ≡ tag → Rule (entryAt s section i)
+
+abbrev pub TextIs : List ℕ → Section → ℕ → List ℕ → Type 0
+TextIs s section tag text = DataIs s section tag (λ (entry : Entry). take (entry .extent) (drop (entry .at .0) s) ≡ text)
+
+-- "Texts"
+pub record LawfulTexts (s : List ℕ) (header : Section) : Type 0 where
+  -- 1021 is "linux"; 1085 to 1088, where present, are "/bin/sh"
+  pub system : TextIs s header 1021 linux
+  pub preInstall : TextIs s header 1085 binSh
+  pub postInstall : TextIs s header 1086 binSh
+  pub preRemove : TextIs s header 1087 binSh
+  pub postRemove : TextIs s header 1088 binSh
+  -- each 1116 value is below the count of 1118
+  pub indexes : DataIs s header 1116
+      (λ (entry : Entry). (k : ℕ) → k < entry .count
+      → WhereTagged s header 1118 (λ (e : IndexRecord). be32At s (entry .at .0 + 4 * k) < e .count))
+  -- each string of 1118 ends with "/": each zero byte of its data stands right behind one
+  pub directories : DataIs s header 1118
+      (λ (entry : Entry). (z : ℕ) → entry .at .0 ≤ z → z < entry .at .0 + entry .extent → getD s z 0 ≡ 0
+      → (entry .at .0 < z) × (getD s (z - 1) 0 ≡ 0x2F))
+
+-- "Book": a record at a place
+pub record LawfulBookRecord (known : ℕ → Bool) (b : List ℕ) (at : ℕ) : Type 0 where
+  -- an unknown weighed kind is refused
+  pub kind : isWeighed (kindAt b at) ≡ true → known (kindAt b at) ≡ true
+  -- the body is in the book
+  pub body : recordEnd b at ≤ length b
+  -- oxide is 1 to 999, milligrams 1 to 5,000,000
+  pub oxide : isWeighed (kindAt b at) ≡ true → (1 ≤ doseAt b at .oxide .0) × (doseAt b at .oxide .0 ≤ 999)
+  pub milligrams : isWeighed (kindAt b at) ≡ true
+      → (1 ≤ doseAt b at .milligrams .0) × (doseAt b at .milligrams .0 ≤ 5000000)
+
+pub record LawfulBook (known : ℕ → Bool) (b : List ℕ) : Type 0 where
+  pub size : length b ≤ bookLimit
+  pub records : (i : ℕ) → i < length (places b) → LawfulBookRecord known b (getD (places b) i 0)
+
+-- a right package at an edition
+pub record LawfulPackage (edition : Edition) (s : List ℕ) : Type 0 where
+  pub most : length s ≤ packageLimit
+  pub least : leadSize ≤ length s
+  pub lead : LawfulLead s
+  pub signature : LawfulStructure s leadSize
+  pub header : LawfulStructure s (headerStart (signatureAt s))
+  pub lines : LawfulLines edition s
+  -- the signature's 1000 is length − H
+  pub payload : WhereTagged s (signatureAt s) 1000
+      (λ (e : IndexRecord). be32At s (inFile (signatureAt s) (e .offset)) ≡ length s - headerStart (signatureAt s))
+  pub groups : LawfulGroups s (signatureAt s) (headerAt s)
+  pub texts : LawfulTexts s (headerAt s)
+  pub book : LawfulBook (edition .known) (bookOf s)
+  -- where the edition has the batch weight's line, the doses' sum equals its value
+  pub batch : hasBatch edition ≡ true
+      → WhereTagged s (headerAt s) batchTag
+      (λ (e : IndexRecord). be32At s (inFile (headerAt s) (e .offset)) ≡ sumOf (doses (bookOf s)))

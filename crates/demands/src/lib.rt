@@ -1,0 +1,1 @@
+// The letter's demands over the reading.
