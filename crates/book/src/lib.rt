@@ -2,8 +2,8 @@
 ghost use mathlib.Core.Path.{_≡_};
 ghost use Prim.Native.Nat.{ℕ, _+_, _≤_, _<_};
 ghost use lib.ListN.{length};
-ghost use Rattle.book.specs.Kinds.{isKnown};
-ghost use Rattle.book.specs.Book.{kindAllowed, weighedRight, recordCheck, lengthCheck, recordsCheck, places};
+ghost use Rattle.book.specs.Kinds.{isWeighed, isKnown};
+ghost use Rattle.book.specs.Book.{recordEnd, kindAllowed, weighedRight, recordCheck, lengthCheck, recordsCheck, places};
 ghost use Rattle.book.specs.Doses.{doses, sumOf, weighedAs, weighed};
 
 pub mod buffer;
@@ -30,6 +30,21 @@ impl Book {
     pub const TAG: u32 = 20001;
 }
 
+// Whether a kind is weighed.
+fn is_weighed(kind: u8) -> bool
+    ensures { λ r. ⌜ r ≡ isWeighed kind ⌝ }
+{
+    128 <= kind
+}
+
+// The place right behind the body of the record at a place.
+fn record_end(book: &[u8], at: usize) -> usize
+    requires { ⌜ at < length (now book) ⌝ }
+    ensures { λ r. ⌜ r ≡ recordEnd (now (book .entry)) at ⌝ }
+{
+    at + 1 + book[at] as usize % 16
+}
+
 // Whether an edition knows a kind: each kind and the edition that lists it.
 fn known(edition: u32, kind: u8) -> bool
     ensures { λ r. ⌜ r ≡ isKnown edition kind ⌝ }
@@ -47,7 +62,7 @@ fn known(edition: u32, kind: u8) -> bool
 fn kind_allowed(edition: u32, kind: u8) -> bool
     ensures { λ r. ⌜ r ≡ kindAllowed (isKnown edition) kind ⌝ }
 {
-    if kind < 128 {
+    if !is_weighed(kind) {
         return true;
     }
     known(edition, kind)
@@ -58,8 +73,7 @@ fn weighed_right(book: &[u8], at: usize) -> bool
     requires { ⌜ at < length (now book) ⌝ }
     ensures { λ r. ⌜ r ≡ weighedRight (now (book .entry)) at ⌝ }
 {
-    let kind = book[at];
-    if kind < 128 {
+    if !is_weighed(book[at]) {
         return true;
     }
     Dose::at(book, at).lawful()
@@ -70,12 +84,10 @@ fn record_check(edition: u32, book: &[u8], at: usize) -> Verdict
     requires { ⌜ (at < length (now book)) × (length (now book) ≤ 4096) ⌝ }
     ensures { λ r. ⌜ r ≡ recordCheck (isKnown edition) (now (book .entry)) at ⌝ }
 {
-    let kind = book[at];
-    if !kind_allowed(edition, kind) {
+    if !kind_allowed(edition, book[at]) {
         return Verdict::Fail(20, at as u32);
     }
-    let end = at + 1 + kind as usize % 16;
-    if book.len() < end {
+    if book.len() < record_end(book, at) {
         return Verdict::Fail(21, at as u32);
     }
     if !weighed_right(book, at) {
@@ -107,13 +119,13 @@ fn records(edition: u32, book: &[u8]) -> Weighed
         if let Verdict::Fail(number, place) = v {
             return Weighed::Unsound(number, place);
         }
-        let kind = book[at];
-        if 128 <= kind {
-            let dose = Dose::at(book, at);
+        let here = at;
+        at = record_end(book, here);
+        if is_weighed(book[here]) {
+            let dose = Dose::at(book, here);
             sum += dose.milligrams.0 as u64;
             count += 1;
         }
-        at += 1 + kind as usize % 16;
     }
     Weighed::Doses(count, sum)
 }

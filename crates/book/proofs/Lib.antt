@@ -1,0 +1,5 @@
+pub mod PlaceLaws
+pub mod KindLaws
+pub mod DoseLaws
+pub mod RecordsLaws
+pub mod BufferLaws
