@@ -3,3 +3,4 @@ pub mod KindLaws
 pub mod DoseLaws
 pub mod RecordsLaws
 pub mod BufferLaws
+pub mod WeighLaws

@@ -3,7 +3,7 @@ ghost use mathlib.Core.Path.{_≡_};
 ghost use Prim.Native.Nat.{ℕ, _+_, _≤_, _<_};
 ghost use lib.ListN.{length};
 ghost use Rattle.book.specs.Kinds.{isWeighed, isKnown};
-ghost use Rattle.book.specs.Book.{recordEnd, kindAllowed, weighedRight, recordCheck, lengthCheck, recordsCheck, places};
+ghost use Rattle.book.specs.Book.{recordEnd, kindAllowed, bodyFits, weighedRight, recordCheck, lengthCheck, recordsCheck, places};
 ghost use Rattle.book.specs.Doses.{doses, sumOf, weighedAs, weighed};
 
 pub mod buffer;
@@ -68,6 +68,14 @@ fn kind_allowed(edition: u32, kind: u8) -> bool
     known(edition, kind)
 }
 
+// Check 21.
+fn body_fits(book: &[u8], at: usize) -> bool
+    requires { ⌜ at < length (now book) ⌝ }
+    ensures { λ r. ⌜ r ≡ bodyFits (now (book .entry)) at ⌝ }
+{
+    record_end(book, at) <= book.len()
+}
+
 // Check 22.
 fn weighed_right(book: &[u8], at: usize) -> bool
     requires { ⌜ at < length (now book) ⌝ }
@@ -87,7 +95,7 @@ fn record_check(edition: u32, book: &[u8], at: usize) -> Verdict
     if !kind_allowed(edition, book[at]) {
         return Verdict::Fail(20, at as u32);
     }
-    if book.len() < record_end(book, at) {
+    if !body_fits(book, at) {
         return Verdict::Fail(21, at as u32);
     }
     if !weighed_right(book, at) {

@@ -1,3 +1,6 @@
+-- A remark is allowed, and of a weighed kind the edition decides.
+-- Assumes nothing.
+use Rattle.book.proofs.KindLaws as laws
 use borrow.Author.Needs.{needs}
 use Rattle.book.proofs.kind_allowed.Statement.{statement}
 use Rattle.book.proofs.kind_allowed.Tie as tie
@@ -12,7 +15,7 @@ is-weighed-requires c κs = search needs
 
 -- src/lib.rt:66:9
 returns : tie.Need-returns
-returns c = ?
+returns c = search laws.remark
 
 -- src/lib.rt:68:5
 known-requires : tie.Need-known-requires
@@ -20,7 +23,7 @@ known-requires c κs = search needs
 
 -- src/lib.rt:62:1
 returns-2 : tie.Need-returns-2
-returns-2 c = ?
+returns-2 c = search laws.asked
 
 pub kind-allowed-spec : {M : Type 1} → statement M
 kind-allowed-spec = tie.close (tie.spec is-weighed-requires returns known-requires returns-2)

@@ -1,3 +1,9 @@
+-- The one comparison decides.
+-- Assumes nothing.
+use native.Mathlib.Omega.{arith}
+use Rattle.format.proofs.VerdictLaws.{passed, stopped, tests}
+use Rattle.book.specs.Book.{lengthCheck}
+use mathlib.Core.Path.{refl}
 use Rattle.book.proofs.length_check.Statement.{statement}
 use Rattle.book.proofs.length_check.Tie as tie
 use Rattle.book.proofs.length_check.Reads as reads
@@ -5,11 +11,13 @@ use Rattle.book.proofs.length_check.Lts as lts
 
 -- src/lib.rt:104:9
 returns : tie.Need-returns
-returns c = ?
+unfolding lengthCheck
+returns c = stopped _ (omega (arith, tests))
 
 -- src/lib.rt:100:1
 returns-2 : tie.Need-returns-2
-returns-2 c = ?
+unfolding lengthCheck
+returns-2 c = passed _ _ (omega (arith, tests)) refl
 
 pub length-check-spec : {M : Type 1} → statement M
 length-check-spec = tie.close (tie.spec returns returns-2)

@@ -1,3 +1,6 @@
+-- A byte fits, and the sum stays near the book's length.
+-- Assumes nothing.
+use native.Mathlib.Omega.{arith}
 use borrow.Author.Needs.{needs}
 use Rattle.book.proofs.record_end.Statement.{statement}
 use Rattle.book.proofs.record_end.Tie as tie
@@ -14,7 +17,7 @@ shared-slice-read-result c = search needs
 
 -- src/lib.rt:45:14
 cast-result : tie.Need-cast-result
-cast-result c = ?
+cast-result c = omega (arith, c .shared-slice-known .given (c .before .args .at))
 
 -- src/lib.rt:45:5
 add-result-2 : tie.Need-add-result-2

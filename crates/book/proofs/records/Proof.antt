@@ -1,3 +1,14 @@
+-- The records that are left decide, and their doses come on top of the count and the sum. Each record takes a byte and
+-- weighs less than 2^32, so neither overflows. Assumes nothing.
+use borrow.Author.Needs.{needs}
+use Prim.Native.Nat.{_+_, _-_, _*_, _≤_}
+use mathlib.Core.Path.{_≡_}
+use lib.ListN.{length}
+use native.Mathlib.Nat.{sub-zero, zero-add}
+use Rattle.book.specs.Kinds.{isKnown}
+use Rattle.book.specs.Book.{placesFrom, places, recordsCheck}
+use Rattle.book.specs.Doses.{dosesOf, doses, sumOf}
+use Rattle.book.proofs.RecordsLaws as laws
 use Rattle.book.proofs.records.Statement.{statement}
 use Rattle.book.proofs.records.Tie as tie
 use Rattle.book.proofs.records.Reads as reads
@@ -8,77 +19,81 @@ use Rattle.book.proofs.record_check.Reads as record-check-reads
 use Rattle.book.proofs.record_end.Reads as record-end-reads
 
 abbrev Inv-loop : tie.InvT-loop
-Inv-loop edition book at₀ count₀ sum₀ at count sum = ?
+Inv-loop edition book at₀ count₀ sum₀ at count sum = (recordsCheck (isKnown edition) book (places book) ≡ recordsCheck (isKnown edition) book (placesFrom book (length book - at) at))
+    × (length (doses book) ≡ count + length (dosesOf book (placesFrom book (length book - at) at)))
+    × (sumOf (doses book) ≡ sum + sumOf (dosesOf book (placesFrom book (length book - at) at)))
+    × (count ≤ at)
+    × (sum ≤ 4294967296 * at)
 
 abbrev μ-loop : tie.MeasureT-loop
-μ-loop edition book at₀ count₀ sum₀ at count sum = ?
+μ-loop edition book at₀ count₀ sum₀ at count sum = length book - at
 
 -- src/lib.rt:117:5
 loop-holds : tie.Need-loop-holds Inv-loop μ-loop
-loop-holds c = ?
+loop-holds c = (simp sub-zero, simp (sub-zero, zero-add), simp (sub-zero, zero-add), search needs, search needs)
 
 -- src/lib.rt:118:13
 record-check-requires : tie.Need-record-check-requires Inv-loop μ-loop
-record-check-requires c κs = ?
+record-check-requires c κs = search needs
 
 -- src/lib.rt:119:30
 enum-known-v : tie.Need-enum-known-v Inv-loop μ-loop
-enum-known-v c = ?
+enum-known-v c = search needs
 
 -- src/lib.rt:120:13
 returns : tie.Need-returns Inv-loop μ-loop
-returns c = ?
+returns c = search laws.ends
 
 enum-told : tie.Need-enum-told Inv-loop μ-loop
-enum-told c = ?
+enum-told c = search needs
 
 -- src/lib.rt:123:9
 record-end-requires : tie.Need-record-end-requires Inv-loop μ-loop
-record-end-requires c κs = ?
+record-end-requires c κs = search needs
 
 -- src/lib.rt:124:23
 shared-slice-read-is-weighed : tie.Need-shared-slice-read-is-weighed Inv-loop μ-loop
-shared-slice-read-is-weighed c = ?
+shared-slice-read-is-weighed c = search needs
 
 -- src/lib.rt:124:12
 is-weighed-requires : tie.Need-is-weighed-requires Inv-loop μ-loop
-is-weighed-requires c κs = ?
+is-weighed-requires c κs = search needs
 
 -- src/lib.rt:125:17
 at-requires : tie.Need-at-requires Inv-loop μ-loop
-at-requires c κs = ?
+at-requires c κs = search needs
 
 -- src/lib.rt:126:20
 cast-sum : tie.Need-cast-sum Inv-loop μ-loop
-cast-sum c = ?
+cast-sum c = search needs
 
 -- src/lib.rt:126:13
 add-sum : tie.Need-add-sum Inv-loop μ-loop
-add-sum c = ?
+add-sum c = search needs
 
 -- src/lib.rt:127:13
 add-count : tie.Need-add-count Inv-loop μ-loop
-add-count c = ?
+add-count c = search needs
 
 -- src/lib.rt:117:5
 loop-less : tie.Need-loop-less Inv-loop μ-loop
-loop-less c = ?
+loop-less c = search needs
 
 -- src/lib.rt:117:5
 loop-again : tie.Need-loop-again Inv-loop μ-loop
-loop-again c = ?
+loop-again c = (search laws.turn, search laws.count-weighed, search laws.sum-weighed, search needs, search needs)
 
 -- src/lib.rt:117:5
 loop-less-2 : tie.Need-loop-less-2 Inv-loop μ-loop
-loop-less-2 c = ?
+loop-less-2 c = search needs
 
 -- src/lib.rt:117:5
 loop-again-2 : tie.Need-loop-again-2 Inv-loop μ-loop
-loop-again-2 c = ?
+loop-again-2 c = (search laws.turn, search laws.count-remark, search laws.sum-remark, search needs, search needs)
 
 -- src/lib.rt:110:1
 returns-2 : tie.Need-returns-2 Inv-loop μ-loop
-returns-2 c = ?
+returns-2 c = search laws.spent
 
 pub records-spec : {M : Type 1} → statement M
 records-spec =

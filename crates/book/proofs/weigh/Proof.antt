@@ -1,3 +1,6 @@
+-- The length decides first, then the records.
+-- Assumes nothing.
+use Rattle.book.proofs.WeighLaws as laws
 use borrow.Author.Needs.{needs}
 use Rattle.book.proofs.weigh.Statement.{statement}
 use Rattle.book.proofs.weigh.Tie as tie
@@ -16,18 +19,18 @@ enum-known-v c = search needs
 
 -- src/lib.rt:139:9
 returns : tie.Need-returns
-returns c = ?
+returns c = search laws.too-long
 
 enum-told : tie.Need-enum-told
 enum-told c = search needs
 
 -- src/lib.rt:141:5
 records-requires : tie.Need-records-requires
-records-requires c κs = ?
+records-requires c κs = search laws.short
 
 -- src/lib.rt:134:1
 returns-2 : tie.Need-returns-2
-returns-2 c = ?
+returns-2 c = search laws.records-decide
 
 pub weigh-spec : {M : Type 1} → statement M
 weigh-spec =

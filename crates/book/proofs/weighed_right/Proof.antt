@@ -1,3 +1,6 @@
+-- A remark is right, and of a weighed record the dose decides.
+-- Assumes nothing.
+use Rattle.book.proofs.KindLaws as laws
 use borrow.Author.Needs.{needs}
 use Rattle.book.proofs.weighed_right.Statement.{statement}
 use Rattle.book.proofs.weighed_right.Tie as tie
@@ -17,7 +20,7 @@ is-weighed-requires c κs = search needs
 
 -- src/lib.rt:77:9
 returns : tie.Need-returns
-returns c = ?
+returns c = search laws.remark
 
 -- src/lib.rt:79:5
 at-requires : tie.Need-at-requires
@@ -29,7 +32,7 @@ lawful-requires c κs = search needs
 
 -- src/lib.rt:72:1
 returns-2 : tie.Need-returns-2
-returns-2 c = ?
+returns-2 c = search laws.asked-dose
 
 pub weighed-right-spec : {M : Type 1} → statement M
 weighed-right-spec =

@@ -1,3 +1,6 @@
+-- A place at or past the end has nothing to store.
+-- Assumes nothing.
+use Rattle.book.proofs.BufferLaws as laws
 use borrow.Author.Needs.{needs}
 use Rattle.book.proofs.buffer.put.Statement.{statement}
 use Rattle.book.proofs.buffer.put.Tie as tie
@@ -22,7 +25,7 @@ returns c = search needs
 
 -- src/buffer.rt:11:1
 returns-2 : tie.Need-returns-2
-returns-2 c = ?
+returns-2 c = search laws.out-of-room
 
 pub put-spec : {M : Type 1} → statement M
 put-spec = tie.close (tie.spec mul-out slice-write-out same-length returns returns-2)

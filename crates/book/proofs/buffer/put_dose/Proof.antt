@@ -1,3 +1,6 @@
+-- The two stores, one behind the other.
+-- Assumes nothing.
+use Rattle.book.proofs.BufferLaws as laws
 use borrow.Author.Needs.{needs}
 use Rattle.book.proofs.buffer.put_dose.Statement.{statement}
 use Rattle.book.proofs.buffer.put_dose.Tie as tie
@@ -27,7 +30,7 @@ same-length c = search needs
 
 -- src/buffer.rt:20:1
 returns : tie.Need-returns
-returns c = ?
+returns c = search laws.two-numbers
 
 pub put-dose-spec : {M : Type 1} → statement M
 put-dose-spec =

@@ -1,3 +1,7 @@
+-- The two numbers' bytes, one number behind the other.
+-- Assumes nothing.
+use native.Mathlib.Omega.{arith}
+use Rattle.book.proofs.BufferLaws as laws
 use borrow.Author.Needs.{needs}
 use Rattle.book.proofs.buffer.put_dose_bytes.Statement.{statement}
 use Rattle.book.proofs.buffer.put_dose_bytes.Tie as tie
@@ -19,7 +23,7 @@ add-put-number c = search needs
 
 -- src/buffer.rt:73:5
 put-number-requires-2 : tie.Need-put-number-requires-2
-put-number-requires-2 c κs = ?
+put-number-requires-2 c κs = omega (arith, c .before .before .before .before .before .before .before .pre)
 
 -- src/buffer.rt:68:1
 same-length : tie.Need-same-length
@@ -27,7 +31,7 @@ same-length c = search needs
 
 -- src/buffer.rt:68:1
 returns : tie.Need-returns
-returns c = ?
+returns c = search laws.eight-bytes
 
 pub put-dose-bytes-spec : {M : Type 1} → statement M
 put-dose-bytes-spec =

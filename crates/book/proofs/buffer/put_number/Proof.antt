@@ -1,3 +1,6 @@
+-- The four stores, one behind the other.
+-- Assumes nothing.
+use Rattle.book.proofs.BufferLaws as laws
 use borrow.Author.Needs.{needs}
 use Rattle.book.proofs.buffer.put_number.Statement.{statement}
 use Rattle.book.proofs.buffer.put_number.Tie as tie
@@ -55,7 +58,20 @@ same-length c = search needs
 
 -- src/buffer.rt:57:1
 returns : tie.Need-returns
-returns c = ?
+returns c =
+    let fourth = c .before .before in
+    let third = fourth .before .before .before .before in
+    let second = third .before .before .before .before in
+    let first = second .before .before .before .before in
+    let start = first .before .before .before .args in
+    laws.four-bytes
+    (start .out .now)
+    (start .i)
+    (start .n)
+    (first .put-byte .ensures)
+    (second .put-byte2 .ensures)
+    (third .put-byte3 .ensures)
+    (fourth .put-byte4 .ensures)
 
 pub put-number-spec : {M : Type 1} → statement M
 put-number-spec =
