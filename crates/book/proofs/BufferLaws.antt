@@ -1,10 +1,10 @@
 -- Doses in a buffer.
 use Prim.Native.Nat.{ℕ, suc, _+_, _-_, _*_, _/_, _%_, _≤_, _<_}
-use mathlib.Core.Path.{_≡_, refl, sym, ap, _∙_}
+use mathlib.Core.Path.{_≡_, refl, sym, _∙_}
 use mathlib.Core.List.{List, [], _∷_, _++_}
 use mathlib.Core.Bool.{Bool, true, false}
-use lib.ListN.{length, set, length-set}
-use lib.Seq.{sets, set-out}
+use lib.ListN.{length, set, drop}
+use lib.Seq.{sets, sets-eq, set-out}
 use native.Mathlib.Nat.{add-zero}
 use native.Mathlib.Numerals.{add-one}
 use native.Mathlib.Omega.{arith}
@@ -12,7 +12,7 @@ use Rattle.book.specs.declared.dose.Dose.{Dose}
 use Rattle.book.specs.Kinds.{isWeighed}
 use Rattle.book.specs.Book.{kindAt, recordEnd, placesFrom, doseAt}
 use Rattle.book.proofs.RecordsLaws.{weighed, remark, no-doses}
-use Rattle.book.specs.Doses.{dosesOf, numbersOf, bytesOf, numberBytes}
+use Rattle.book.specs.Doses.{dosesOf, numbersPerDose, numbersOf, bytesOf, numberBytes}
 
 pub out-of-room : (out : List ℕ) (i n : ℕ) → length out ≤ i → out ≡ set out i n
 out-of-room out i n h = sym (set-out out i n h)
@@ -92,3 +92,17 @@ module _ (spell : List Dose → List ℕ) where
 
 pub full : (out left : List ℕ) (i : ℕ) {v : List ℕ} → v ≡ sets out i left → length out ≤ i → out ≡ v
 full out left i inv h = sym (inv ∙ sets-past out i left h)
+
+-- for callers: how much room the doses take, and what they leave where there is room
+pub numbers-room : (ds : List Dose) → length (numbersOf ds) ≡ numbersPerDose * length ds
+unfolding numbersOf
+numbers-room [] = refl
+numbers-room (dose ∷ rest) = let k = numbers-room rest in omega arith
+
+pub bytes-room : (ns : List ℕ) → length (numberBytes ns) ≡ 4 * length ns
+unfolding numberBytes
+bytes-room [] = refl
+bytes-room (n ∷ rest) = let k = bytes-room rest in omega arith
+
+pub at-front : (out vs : List ℕ) → length vs ≤ length out → sets out 0 vs ≡ vs ++ drop (length vs) out
+at-front out vs h = let e : 0 + length vs ≡ length vs = omega arith in sets-eq vs out 0 (omega arith) ∙ rw e

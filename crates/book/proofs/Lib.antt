@@ -4,3 +4,4 @@ pub mod DoseLaws
 pub mod RecordsLaws
 pub mod BufferLaws
 pub mod WeighLaws
+pub mod PassLaws

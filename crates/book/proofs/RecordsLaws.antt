@@ -1,6 +1,6 @@
 -- Laws of the walk over a book's records, for each way through a turn: weighed, remark and none of `dosesOf`; then of the
 -- checks, the count and the sum.
-use Prim.Native.Nat.{ℕ, _+_, _-_, _*_, _≤_, _<_}
+use Prim.Native.Nat.{ℕ, _+_, _-_, _≤_, _<_}
 use mathlib.Core.Path.{_≡_, refl, sym, ap, _∙_}
 use mathlib.Core.List.{List, [], _∷_}
 use mathlib.Core.Bool.{Bool, true, false, cond}
@@ -11,10 +11,9 @@ use Rattle.format.specs.declared.verdict.Verdict.the-variants.{Pass, Fail}
 use Rattle.format.specs.Verdicts.{both}
 use Rattle.format.proofs.VerdictLaws.{both-pass, both-fail}
 use Rattle.book.specs.declared.dose.Dose.{Dose}
-use Rattle.book.specs.declared.Weighed.{Weighed}
 use Rattle.book.specs.declared.Weighed.the-variants.{Doses, Unsound}
 use Rattle.book.specs.Kinds.{isWeighed}
-use Rattle.book.specs.Book.{kindAt, recordEnd, placesFrom, places, doseAt, recordCheck, recordsCheck}
+use Rattle.book.specs.Book.{kindAt, recordEnd, placesFrom, doseAt, recordCheck, recordsCheck}
 use Rattle.book.specs.Doses.{dosesOf, sumOf, weighedAs}
 use Rattle.book.proofs.PlaceLaws.{first, none}
 

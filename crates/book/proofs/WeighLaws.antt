@@ -1,19 +1,14 @@
--- A book by its length and its records: short, too-long, records-decide; and what a weighed book says of its bytes, for
--- callers: weighed-doses, weighed-unsound, pass-length, pass-records.
+-- A book by its length and then its records: short, too-long, records-decide. PassLaws has what callers want.
 use Prim.Native.Nat.{ℕ, _≤_}
-use mathlib.Core.Path.{_≡_, refl, sym, ap, _∙_}
+use mathlib.Core.Path.{_≡_, sym, _∙_}
 use mathlib.Core.List.{List}
-use mathlib.Core.Bool.{Bool}
 use lib.ListN.{length}
-use lib.Dec.{leb}
-use native.Mathlib.Omega.{arith}
 use borrow.Author.Tests.{leb-true}
 use Rattle.format.specs.declared.verdict.Verdict.{Verdict}
 use Rattle.format.specs.declared.verdict.Verdict.the-variants.{Pass, Fail}
-use Rattle.format.specs.Verdicts.{both}
-use Rattle.format.proofs.VerdictLaws.{inverted, both-pass, both-fail, both-inverted}
+use Rattle.format.proofs.VerdictLaws.{inverted, both-pass, both-fail}
 use Rattle.book.specs.declared.Weighed.{Weighed}
-use Rattle.book.specs.declared.Weighed.the-variants.{Doses, Unsound}
+use Rattle.book.specs.declared.Weighed.the-variants.{Unsound}
 use Rattle.book.specs.Kinds.{isKnown}
 use Rattle.book.specs.Book.{bookLimit, places, lengthCheck, recordsCheck, bookCheck}
 use Rattle.book.specs.Doses.{doses, sumOf, weighedAs, weighed}

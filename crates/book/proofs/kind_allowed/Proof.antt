@@ -4,24 +4,16 @@ use Rattle.book.proofs.KindLaws as laws
 use borrow.Author.Needs.{needs}
 use Rattle.book.proofs.kind_allowed.Statement.{statement}
 use Rattle.book.proofs.kind_allowed.Tie as tie
-use Rattle.book.proofs.kind_allowed.Reads as reads
-use Rattle.book.proofs.kind_allowed.Lts as lts
-use Rattle.book.proofs.is_weighed.Reads as is-weighed-reads
-use Rattle.book.proofs.known.Reads as known-reads
 
--- src/lib.rt:65:9
 is-weighed-requires : tie.Need-is-weighed-requires
 is-weighed-requires c κs = search needs
 
--- src/lib.rt:66:9
 returns : tie.Need-returns
 returns c = search laws.remark
 
--- src/lib.rt:68:5
 known-requires : tie.Need-known-requires
 known-requires c κs = search needs
 
--- src/lib.rt:62:1
 returns-2 : tie.Need-returns-2
 returns-2 c = search laws.asked
 

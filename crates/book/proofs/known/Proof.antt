@@ -5,30 +5,23 @@ use borrow.Author.Tests.{ne-eqb}
 use Rattle.book.specs.Kinds.{isKnown}
 use Rattle.book.proofs.known.Statement.{statement}
 use Rattle.book.proofs.known.Tie as tie
-use Rattle.book.proofs.known.Reads as reads
-use Rattle.book.proofs.known.Lts as lts
 
--- src/lib.rt:49:1
 returns : tie.Need-returns
 unfolding isKnown
 returns c = rw (c .match .keys1) (simp or-false)
 
--- src/lib.rt:49:1
 returns-2 : tie.Need-returns-2
 unfolding isKnown
 returns-2 c = rw (c .match .keys2) (simp or-false)
 
--- src/lib.rt:49:1
 returns-3 : tie.Need-returns-3
 unfolding isKnown
 returns-3 c = rw (c .match .keys3) (simp or-false)
 
--- src/lib.rt:49:1
 returns-4 : tie.Need-returns-4
 unfolding isKnown
 returns-4 c = rw (c .match .keys4)
 
--- src/lib.rt:49:1
 returns-5 : tie.Need-returns-5
 unfolding isKnown
 returns-5 c = let k = c .before .args .kind in

@@ -6,15 +6,11 @@ use Rattle.book.specs.Book.{lengthCheck}
 use mathlib.Core.Path.{refl}
 use Rattle.book.proofs.length_check.Statement.{statement}
 use Rattle.book.proofs.length_check.Tie as tie
-use Rattle.book.proofs.length_check.Reads as reads
-use Rattle.book.proofs.length_check.Lts as lts
 
--- src/lib.rt:104:9
 returns : tie.Need-returns
 unfolding lengthCheck
 returns c = stopped _ (omega (arith, tests))
 
--- src/lib.rt:100:1
 returns-2 : tie.Need-returns-2
 unfolding lengthCheck
 returns-2 c = passed _ _ (omega (arith, tests)) refl

@@ -11,12 +11,6 @@ use Rattle.book.specs.Doses.{dosesOf, doses, sumOf}
 use Rattle.book.proofs.RecordsLaws as laws
 use Rattle.book.proofs.records.Statement.{statement}
 use Rattle.book.proofs.records.Tie as tie
-use Rattle.book.proofs.records.Reads as reads
-use Rattle.book.proofs.records.Lts as lts
-use Rattle.book.proofs.dose.Dose.at.Reads as at-reads
-use Rattle.book.proofs.is_weighed.Reads as is-weighed-reads
-use Rattle.book.proofs.record_check.Reads as record-check-reads
-use Rattle.book.proofs.record_end.Reads as record-end-reads
 
 abbrev Inv-loop : tie.InvT-loop
 Inv-loop edition book at₀ count₀ sum₀ at count sum = (recordsCheck (isKnown edition) book (places book) ≡ recordsCheck (isKnown edition) book (placesFrom book (length book - at) at))
@@ -28,70 +22,54 @@ Inv-loop edition book at₀ count₀ sum₀ at count sum = (recordsCheck (isKnow
 abbrev μ-loop : tie.MeasureT-loop
 μ-loop edition book at₀ count₀ sum₀ at count sum = length book - at
 
--- src/lib.rt:117:5
 loop-holds : tie.Need-loop-holds Inv-loop μ-loop
 loop-holds c = (simp sub-zero, simp (sub-zero, zero-add), simp (sub-zero, zero-add), search needs, search needs)
 
--- src/lib.rt:118:13
 record-check-requires : tie.Need-record-check-requires Inv-loop μ-loop
 record-check-requires c κs = search needs
 
--- src/lib.rt:119:30
 enum-known-v : tie.Need-enum-known-v Inv-loop μ-loop
 enum-known-v c = search needs
 
--- src/lib.rt:120:13
 returns : tie.Need-returns Inv-loop μ-loop
 returns c = search laws.ends
 
 enum-told : tie.Need-enum-told Inv-loop μ-loop
 enum-told c = search needs
 
--- src/lib.rt:123:9
 record-end-requires : tie.Need-record-end-requires Inv-loop μ-loop
 record-end-requires c κs = search needs
 
--- src/lib.rt:124:23
 shared-slice-read-is-weighed : tie.Need-shared-slice-read-is-weighed Inv-loop μ-loop
 shared-slice-read-is-weighed c = search needs
 
--- src/lib.rt:124:12
 is-weighed-requires : tie.Need-is-weighed-requires Inv-loop μ-loop
 is-weighed-requires c κs = search needs
 
--- src/lib.rt:125:17
 at-requires : tie.Need-at-requires Inv-loop μ-loop
 at-requires c κs = search needs
 
--- src/lib.rt:126:20
 cast-sum : tie.Need-cast-sum Inv-loop μ-loop
 cast-sum c = search needs
 
--- src/lib.rt:126:13
 add-sum : tie.Need-add-sum Inv-loop μ-loop
 add-sum c = search needs
 
--- src/lib.rt:127:13
 add-count : tie.Need-add-count Inv-loop μ-loop
 add-count c = search needs
 
--- src/lib.rt:117:5
 loop-less : tie.Need-loop-less Inv-loop μ-loop
 loop-less c = search needs
 
--- src/lib.rt:117:5
 loop-again : tie.Need-loop-again Inv-loop μ-loop
 loop-again c = (search laws.turn, search laws.count-weighed, search laws.sum-weighed, search needs, search needs)
 
--- src/lib.rt:117:5
 loop-less-2 : tie.Need-loop-less-2 Inv-loop μ-loop
 loop-less-2 c = search needs
 
--- src/lib.rt:117:5
 loop-again-2 : tie.Need-loop-again-2 Inv-loop μ-loop
 loop-again-2 c = (search laws.turn, search laws.count-remark, search laws.sum-remark, search needs, search needs)
 
--- src/lib.rt:110:1
 returns-2 : tie.Need-returns-2 Inv-loop μ-loop
 returns-2 c = search laws.spent
 

@@ -4,26 +4,19 @@ use Rattle.book.proofs.BufferLaws as laws
 use borrow.Author.Needs.{needs}
 use Rattle.book.proofs.buffer.put.Statement.{statement}
 use Rattle.book.proofs.buffer.put.Tie as tie
-use Rattle.book.proofs.buffer.put.Reads as reads
-use Rattle.book.proofs.buffer.put.Lts as lts
 
--- src/buffer.rt:15:9
 mul-out : tie.Need-mul-out
 mul-out c = search needs
 
--- src/buffer.rt:15:9
 slice-write-out : tie.Need-slice-write-out
 slice-write-out c = search needs
 
--- src/buffer.rt:11:1
 same-length : tie.Need-same-length
 same-length c = search needs
 
--- src/buffer.rt:11:1
 returns : tie.Need-returns
 returns c = search needs
 
--- src/buffer.rt:11:1
 returns-2 : tie.Need-returns-2
 returns-2 c = search laws.out-of-room
 

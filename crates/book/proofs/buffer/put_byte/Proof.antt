@@ -4,22 +4,16 @@ use Rattle.book.proofs.BufferLaws as laws
 use borrow.Author.Needs.{needs}
 use Rattle.book.proofs.buffer.put_byte.Statement.{statement}
 use Rattle.book.proofs.buffer.put_byte.Tie as tie
-use Rattle.book.proofs.buffer.put_byte.Reads as reads
-use Rattle.book.proofs.buffer.put_byte.Lts as lts
 
--- src/buffer.rt:52:9
 slice-write-out : tie.Need-slice-write-out
 slice-write-out c = search needs
 
--- src/buffer.rt:48:1
 same-length : tie.Need-same-length
 same-length c = search needs
 
--- src/buffer.rt:48:1
 returns : tie.Need-returns
 returns c = search needs
 
--- src/buffer.rt:48:1
 returns-2 : tie.Need-returns-2
 returns-2 c = search laws.out-of-room
 

@@ -5,31 +5,22 @@ use Rattle.book.proofs.BufferLaws as laws
 use borrow.Author.Needs.{needs}
 use Rattle.book.proofs.buffer.put_dose_bytes.Statement.{statement}
 use Rattle.book.proofs.buffer.put_dose_bytes.Tie as tie
-use Rattle.book.proofs.buffer.put_dose_bytes.Reads as reads
-use Rattle.book.proofs.buffer.put_dose_bytes.Lts as lts
-use Rattle.book.proofs.buffer.put_number.Reads as put-number-reads
 
--- src/buffer.rt:72:24
 cast-put-number : tie.Need-cast-put-number
 cast-put-number c = search needs
 
--- src/buffer.rt:72:5
 put-number-requires : tie.Need-put-number-requires
 put-number-requires c κs = search needs
 
--- src/buffer.rt:73:21
 add-put-number : tie.Need-add-put-number
 add-put-number c = search needs
 
--- src/buffer.rt:73:5
 put-number-requires-2 : tie.Need-put-number-requires-2
 put-number-requires-2 c κs = omega (arith, c .before .before .before .before .before .before .before .pre)
 
--- src/buffer.rt:68:1
 same-length : tie.Need-same-length
 same-length c = search needs
 
--- src/buffer.rt:68:1
 returns : tie.Need-returns
 returns c = search laws.eight-bytes
 

@@ -4,59 +4,43 @@ use Rattle.book.proofs.BufferLaws as laws
 use borrow.Author.Needs.{needs}
 use Rattle.book.proofs.buffer.put_number.Statement.{statement}
 use Rattle.book.proofs.buffer.put_number.Tie as tie
-use Rattle.book.proofs.buffer.put_number.Reads as reads
-use Rattle.book.proofs.buffer.put_number.Lts as lts
-use Rattle.book.proofs.buffer.put_byte.Reads as put-byte-reads
 
--- src/buffer.rt:61:22
 cast-put-byte : tie.Need-cast-put-byte
 cast-put-byte c = search needs
 
--- src/buffer.rt:61:5
 put-byte-requires : tie.Need-put-byte-requires
 put-byte-requires c κs = search needs
 
--- src/buffer.rt:62:19
 add-put-byte : tie.Need-add-put-byte
 add-put-byte c = search needs
 
--- src/buffer.rt:62:26
 cast-put-byte-2 : tie.Need-cast-put-byte-2
 cast-put-byte-2 c = search needs
 
--- src/buffer.rt:62:5
 put-byte-requires-2 : tie.Need-put-byte-requires-2
 put-byte-requires-2 c κs = search needs
 
--- src/buffer.rt:63:19
 add-put-byte-2 : tie.Need-add-put-byte-2
 add-put-byte-2 c = search needs
 
--- src/buffer.rt:63:26
 cast-put-byte-3 : tie.Need-cast-put-byte-3
 cast-put-byte-3 c = search needs
 
--- src/buffer.rt:63:5
 put-byte-requires-3 : tie.Need-put-byte-requires-3
 put-byte-requires-3 c κs = search needs
 
--- src/buffer.rt:64:19
 add-put-byte-3 : tie.Need-add-put-byte-3
 add-put-byte-3 c = search needs
 
--- src/buffer.rt:64:26
 cast-put-byte-4 : tie.Need-cast-put-byte-4
 cast-put-byte-4 c = search needs
 
--- src/buffer.rt:64:5
 put-byte-requires-4 : tie.Need-put-byte-requires-4
 put-byte-requires-4 c κs = search needs
 
--- src/buffer.rt:57:1
 same-length : tie.Need-same-length
 same-length c = search needs
 
--- src/buffer.rt:57:1
 returns : tie.Need-returns
 returns c =
     let fourth = c .before .before in

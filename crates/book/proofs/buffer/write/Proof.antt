@@ -11,12 +11,6 @@ use Rattle.book.specs.Doses.{dosesOf, doses, numbersOf}
 use Rattle.book.proofs.BufferLaws as laws
 use Rattle.book.proofs.buffer.write.Statement.{statement}
 use Rattle.book.proofs.buffer.write.Tie as tie
-use Rattle.book.proofs.buffer.write.Reads as reads
-use Rattle.book.proofs.buffer.write.Lts as lts
-use Rattle.book.proofs.buffer.put_dose.Reads as put-dose-reads
-use Rattle.book.proofs.dose.Dose.at.Reads as at-reads
-use Rattle.book.proofs.is_weighed.Reads as is-weighed-reads
-use Rattle.book.proofs.record_end.Reads as record-end-reads
 
 abbrev Inv-loop : tie.InvT-loop
 Inv-loop book out₀ at₀ i₀ out at i = (sets out₀ 0 (numbersOf (doses book)) ≡ sets out i (numbersOf (dosesOf book (placesFrom book (length book - at) at))))
@@ -25,63 +19,48 @@ Inv-loop book out₀ at₀ i₀ out at i = (sets out₀ 0 (numbersOf (doses book
 abbrev μ-loop : tie.MeasureT-loop
 μ-loop book out₀ at₀ i₀ out at i = length book - at
 
--- src/buffer.rt:34:5
 loop-holds : tie.Need-loop-holds Inv-loop μ-loop
 loop-holds c = (simp sub-zero, search needs)
 
--- src/buffer.rt:36:13
 same-length : tie.Need-same-length Inv-loop μ-loop
 same-length c = search needs
 
--- src/buffer.rt:36:13
 returns : tie.Need-returns Inv-loop μ-loop
 returns c = search (laws.full)
 
--- src/buffer.rt:39:9
 record-end-requires : tie.Need-record-end-requires Inv-loop μ-loop
 record-end-requires c κs = search needs
 
--- src/buffer.rt:40:30
 shared-slice-read-is-weighed : tie.Need-shared-slice-read-is-weighed Inv-loop μ-loop
 shared-slice-read-is-weighed c = search needs
 
--- src/buffer.rt:40:12
 is-weighed-requires : tie.Need-is-weighed-requires Inv-loop μ-loop
 is-weighed-requires c κs = search needs
 
--- src/buffer.rt:41:30
 at-requires : tie.Need-at-requires Inv-loop μ-loop
 at-requires c κs = search needs
 
--- src/buffer.rt:41:13
 put-dose-requires : tie.Need-put-dose-requires Inv-loop μ-loop
 put-dose-requires c κs = search needs
 
--- src/buffer.rt:42:13
 add-i : tie.Need-add-i Inv-loop μ-loop
 add-i c = search needs
 
--- src/buffer.rt:34:5
 loop-less : tie.Need-loop-less Inv-loop μ-loop
 loop-less c = search needs
 
--- src/buffer.rt:34:5
 loop-again : tie.Need-loop-again Inv-loop μ-loop
 loop-again c = (search (laws.turn-weighed numbersOf 2 laws.numbers-more), search needs)
 
--- src/buffer.rt:34:5
 loop-less-2 : tie.Need-loop-less-2 Inv-loop μ-loop
 loop-less-2 c = search needs
 
--- src/buffer.rt:34:5
 loop-again-2 : tie.Need-loop-again-2 Inv-loop μ-loop
 loop-again-2 c = (search (laws.turn-remark numbersOf), search needs)
 
--- src/buffer.rt:29:1
 same-length-2 : tie.Need-same-length-2 Inv-loop μ-loop
 same-length-2 c = search needs
 
--- src/buffer.rt:29:1
 returns-2 : tie.Need-returns-2 Inv-loop μ-loop
 returns-2 c = search (laws.done numbersOf laws.numbers-none)
 
