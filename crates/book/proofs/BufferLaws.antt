@@ -1,4 +1,6 @@
--- Doses in a buffer.
+-- Stores in a buffer (out-of-room, sets-append, sets-past), those of one number and of one dose (two-numbers, four-bytes,
+-- eight-bytes), and a walk that stores a book's doses, for each way through a turn (turn-remark, turn-weighed, done, full).
+-- For callers: numbers-room, bytes-room, at-front.
 use Prim.Native.Nat.{ℕ, suc, _+_, _-_, _*_, _/_, _%_, _≤_, _<_}
 use mathlib.Core.Path.{_≡_, refl, sym, _∙_}
 use mathlib.Core.List.{List, [], _∷_, _++_}
@@ -11,13 +13,14 @@ use native.Mathlib.Omega.{arith}
 use Rattle.book.specs.declared.dose.Dose.{Dose}
 use Rattle.book.specs.Kinds.{isWeighed}
 use Rattle.book.specs.Book.{kindAt, recordEnd, placesFrom, doseAt}
-use Rattle.book.proofs.RecordsLaws.{weighed, remark, no-doses}
 use Rattle.book.specs.Doses.{dosesOf, numbersPerDose, numbersOf, bytesOf, numberBytes}
+use Rattle.book.proofs.RecordsLaws.{weighed, remark, no-doses}
 
 pub out-of-room : (out : List ℕ) (i n : ℕ) → length out ≤ i → out ≡ set out i n
 out-of-room out i n h = sym (set-out out i n h)
 
-pub sets-append : (out : List ℕ) (i : ℕ) (xs ys : List ℕ) → sets out i (xs ++ ys) ≡ sets (sets out i xs) (i + length xs) ys
+pub sets-append : (out : List ℕ) (i : ℕ) (xs ys : List ℕ)
+    → sets out i (xs ++ ys) ≡ sets (sets out i xs) (i + length xs) ys
 sets-append out i [] ys = rw add-zero
 sets-append out i (x ∷ xs) ys =
     let e : i + suc (length xs) ≡ suc i + length xs = omega arith in
@@ -27,7 +30,6 @@ pub sets-past : (out : List ℕ) (i : ℕ) (xs : List ℕ) → length out ≤ i 
 sets-past out i [] h = refl
 sets-past out i (x ∷ xs) h = let e = set-out out i x h in rw e (sets-past out (suc i) xs (omega arith))
 
--- what the stores of one number, and of one dose, leave
 pub two-numbers : (out : List ℕ) (i : ℕ) (dose : Dose) {o₁ o₂ : List ℕ} → o₁ ≡ set out i (dose .oxide .0)
     → o₂ ≡ set o₁ (i + 1) (dose .milligrams .0) → o₂ ≡ sets out i (numbersOf (dose ∷ []))
 unfolding numbersOf
@@ -44,7 +46,8 @@ four-bytes out i n p q r s =
 pub eight-bytes : (out : List ℕ) (i : ℕ) (dose : Dose) {o₁ o₂ : List ℕ} → o₁ ≡ sets out i (bytesOf (dose .oxide .0))
     → o₂ ≡ sets o₁ (i + 4) (bytesOf (dose .milligrams .0)) → o₂ ≡ sets out i (numberBytes (numbersOf (dose ∷ [])))
 unfolding numbersOf numberBytes
-eight-bytes out i dose p q = q ∙ rw p (sym (sets-append out i (bytesOf (dose .oxide .0)) (bytesOf (dose .milligrams .0))))
+eight-bytes out i dose p q =
+    q ∙ rw p (sym (sets-append out i (bytesOf (dose .oxide .0)) (bytesOf (dose .milligrams .0))))
 
 -- doses spelled as numbers, and as bytes: none, and one more
 pub numbers-none : numbersOf [] ≡ []

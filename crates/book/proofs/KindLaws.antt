@@ -1,5 +1,5 @@
--- What is asked of weighed records only: remark, asked, asked-dose. For callers, known-kept: a later edition knows the kinds
--- of an earlier one.
+-- What is asked of weighed records only: remark, asked, asked-dose. For callers, known-kept: a later edition knows the
+-- kinds of an earlier one.
 use Prim.Native.Nat.{ℕ, _≤_}
 use mathlib.Core.Path.{_≡_, refl, ap, _∙_}
 use mathlib.Core.List.{List}
@@ -24,7 +24,8 @@ pub asked-dose : (b : List ℕ) (at : ℕ) {dose : Dose} {r v : Bool} → r ≡ 
     → dose ≡ doseAt b at → v ≡ doseLawful dose → v ≡ weighedRight b at
 asked-dose b at h k e f = asked (kindAt b at) (doseLawful (doseAt b at)) h k (f ∙ ap doseLawful e)
 
-or-kept : (x y : Bool) {x′ y′ : Bool} → (x ≡ true → x′ ≡ true) → (y ≡ true → y′ ≡ true) → (x || y) ≡ true → (x′ || y′) ≡ true
+or-kept : (x y : Bool) {x′ y′ : Bool} → (x ≡ true → x′ ≡ true) → (y ≡ true → y′ ≡ true) → (x || y) ≡ true
+    → (x′ || y′) ≡ true
 or-kept true y f g h = rw (f refl)
 or-kept false y {x′} f g h = rw (g h) (or-true x′)
 

@@ -78,7 +78,8 @@ unfolding placesFrom
 places-few b zero at = omega arith
 places-few b (suc n) at = go (leb (length b) at) (places-few b n (recordEnd b at))
   where
-    go : (t : Bool) → length (placesFrom b n (recordEnd b at)) ≤ n → length (cond t [] (at ∷ placesFrom b n (recordEnd b at))) ≤ suc n
+    go : (t : Bool) → length (placesFrom b n (recordEnd b at)) ≤ n
+        → length (cond t [] (at ∷ placesFrom b n (recordEnd b at))) ≤ suc n
     go true h = omega arith
     go false h = omega arith
 
@@ -92,7 +93,8 @@ doses-few b (at ∷ rest) = go (isWeighed (kindAt b at)) (doses-few b rest)
     go true h = omega arith
     go false h = omega arith
 
-by-doses : (v : Verdict) (n m : ℕ) {count sum : ℕ} → weighedAs v n m ≡ Doses count sum → (v ≡ Pass) × (count ≡ n) × (sum ≡ m)
+by-doses : (v : Verdict) (n m : ℕ) {count sum : ℕ} → weighedAs v n m ≡ Doses count sum
+    → (v ≡ Pass) × (count ≡ n) × (sum ≡ m)
 by-doses Pass n m h = (refl, cc, cc)
 by-doses (Fail number place) n m h = let z : _≡_ {A = ℕ} 0 1 = cc in absurd (omega arith)
 
@@ -107,7 +109,8 @@ module _ (edition : ℕ) (b : List ℕ) {r : Weighed} (h : r ≡ weighed edition
   unfolding weighed
   weighed-doses k = by-doses _ _ _ (sym h ∙ k)
 
-  pub weighed-unsound : {number place : ℕ} → r ≡ Unsound number place → bookCheck (isKnown edition) b ≡ Fail number place
+  pub weighed-unsound : {number place : ℕ} → r ≡ Unsound number place
+      → bookCheck (isKnown edition) b ≡ Fail number place
   unfolding weighed
   weighed-unsound k = by-unsound _ _ _ (sym h ∙ k)
 

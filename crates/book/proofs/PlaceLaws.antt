@@ -1,5 +1,5 @@
--- Where records start: any sufficient bound gives the same places (enough), and the places from one on, as far as the book
--- goes (first, none).
+-- Where records start: none past the end, any sufficient bound gives the same places (enough), and behind a record the
+-- next one starts (first).
 use Prim.Native.Nat.{ℕ, zero, suc, _+_, _-_, _≤_, _<_}
 use mathlib.Core.Path.{_≡_, refl, sym, ap, _∙_}
 use mathlib.Core.List.{List, [], _∷_}
@@ -24,8 +24,9 @@ module _ (b : List ℕ) where
   enough zero m at h k = none zero at (omega arith) ∙ sym (none m at (omega arith))
   enough (suc n) zero at h k = none (suc n) at (omega arith) ∙ sym (none zero at (omega arith))
   enough (suc n) (suc m) at h k =
+      let e = enough n m (recordEnd b at) (omega arith) (omega arith) in
       step n at
-      ∙ ap (λ (l : List ℕ). cond (leb (length b) at) [] (at ∷ l)) (enough n m (recordEnd b at) (omega arith) (omega arith))
+      ∙ ap (λ (l : List ℕ). cond (leb (length b) at) [] (at ∷ l)) e
       ∙ sym (step m at)
 
   pub first : (at : ℕ) → at < length b

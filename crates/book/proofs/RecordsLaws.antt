@@ -1,5 +1,5 @@
--- Laws of the walk over a book's records, for each way through a turn: weighed, remark and none of `dosesOf`; then of the
--- checks, the count and the sum.
+-- Laws of the walk over a book's records, for each way through a turn: of its doses (weighed, remark, no-doses), of its
+-- checks (turn, ends), of the count and the sum (counted, summed, skipped), and of all where it ends (spent).
 use Prim.Native.Nat.{ℕ, _+_, _-_, _≤_, _<_}
 use mathlib.Core.Path.{_≡_, refl, sym, ap, _∙_}
 use mathlib.Core.List.{List, [], _∷_}
@@ -63,25 +63,23 @@ module _ (known : ℕ → Bool) (b : List ℕ) (at : ℕ) (l : at < length b) {v
   pub ends : {number place : ℕ} (count sum : ℕ) → v ≡ Fail number place → Unsound number place ≡ weighedAs x count sum
   ends count sum k = rw (here refl ∙ both-fail _ k)
 
--- w says whether the record is weighed; the count and the sum so far, with what is left, are n
+-- w says whether the record is weighed; what was counted or summed so far, with what is left, is n
 module _ (b : List ℕ) (at : ℕ) (l : at < length b) {end : ℕ} (e : end ≡ recordEnd b at) {w : Bool}
     (h : w ≡ isWeighed (kindAt b at)) (sofar : ℕ) {n : ℕ} where
-  pub count-weighed : n ≡ sofar + length (dosesOf b (placesFrom b (length b - at) at)) → w ≡ true
+  pub counted : n ≡ sofar + length (dosesOf b (placesFrom b (length b - at) at)) → w ≡ true
       → n ≡ sofar + 1 + length (dosesOf b (placesFrom b (length b - end) end))
-  count-weighed inv k = let d = ap length (weighed b at l e h k refl) in omega arith
+  counted inv k = let d = ap length (weighed b at l e h k refl) in omega arith
 
-  pub count-remark : n ≡ sofar + length (dosesOf b (placesFrom b (length b - at) at)) → w ≡ false
-      → n ≡ sofar + length (dosesOf b (placesFrom b (length b - end) end))
-  count-remark inv k = let d = ap length (remark b at l e h k) in omega arith
-
-  pub sum-weighed : {dose : Dose} → n ≡ sofar + sumOf (dosesOf b (placesFrom b (length b - at) at)) → w ≡ true
+  pub summed : {dose : Dose} → n ≡ sofar + sumOf (dosesOf b (placesFrom b (length b - at) at)) → w ≡ true
       → dose ≡ doseAt b at → n ≡ sofar + dose .milligrams .0 + sumOf (dosesOf b (placesFrom b (length b - end) end))
   unfolding sumOf
-  sum-weighed inv k q = let d = ap sumOf (weighed b at l e h k q) in omega arith
+  summed inv k q = let d = ap sumOf (weighed b at l e h k q) in omega arith
 
-  pub sum-remark : n ≡ sofar + sumOf (dosesOf b (placesFrom b (length b - at) at)) → w ≡ false
-      → n ≡ sofar + sumOf (dosesOf b (placesFrom b (length b - end) end))
-  sum-remark inv k = let d = ap sumOf (remark b at l e h k) in omega arith
+pub skipped : (f : List Dose → ℕ) (b : List ℕ) (at : ℕ) → at < length b → {end : ℕ} → end ≡ recordEnd b at → {w : Bool}
+    → w ≡ isWeighed (kindAt b at) → w ≡ false → (sofar : ℕ) {n : ℕ}
+    → n ≡ sofar + f (dosesOf b (placesFrom b (length b - at) at))
+    → n ≡ sofar + f (dosesOf b (placesFrom b (length b - end) end))
+skipped f b at l e h k sofar inv = inv ∙ rw (remark b at l e h k)
 
 pub spent : (known : ℕ → Bool) (b : List ℕ) (at count sum : ℕ) {x : Verdict} {n m : ℕ}
     → x ≡ recordsCheck known b (placesFrom b (length b - at) at)

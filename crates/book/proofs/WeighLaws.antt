@@ -24,6 +24,7 @@ module _ (b : List ℕ) {v : Verdict} (h : v ≡ lengthCheck b) where
   too-long edition k = rw (both-fail (recordsCheck (isKnown edition) b (places b)) (sym h ∙ k))
 
   pub records-decide : (edition : ℕ) {r : Weighed} → v ≡ Pass
-      → r ≡ weighedAs (recordsCheck (isKnown edition) b (places b)) (length (doses b)) (sumOf (doses b)) → r ≡ weighed edition b
+      → r ≡ weighedAs (recordsCheck (isKnown edition) b (places b)) (length (doses b)) (sumOf (doses b))
+      → r ≡ weighed edition b
   unfolding weighed bookCheck
   records-decide edition k e = rw (both-pass {rest = recordsCheck (isKnown edition) b (places b)} (sym h ∙ k)) e

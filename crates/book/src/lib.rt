@@ -1,9 +1,10 @@
 // A book of recipes: kinds, records and doses over the book's bytes alone. Checks 19 to 22.
 ghost use mathlib.Core.Path.{_≡_};
-ghost use Prim.Native.Nat.{ℕ, _+_, _≤_, _<_};
+ghost use Prim.Native.Nat.{_≤_, _<_};
 ghost use lib.ListN.{length};
 ghost use Rattle.book.specs.Kinds.{isWeighed, isKnown};
-ghost use Rattle.book.specs.Book.{recordEnd, kindAllowed, bodyFits, weighedRight, recordCheck, lengthCheck, recordsCheck, places};
+ghost use Rattle.book.specs.Book.{recordEnd, places, kindAllowed, bodyFits, weighedRight};
+ghost use Rattle.book.specs.Book.{recordCheck, recordsCheck, lengthCheck};
 ghost use Rattle.book.specs.Doses.{doses, sumOf, weighedAs, weighed};
 
 pub mod buffer;
@@ -14,8 +15,8 @@ pub use dose::Milligrams;
 pub use dose::Oxide;
 use format::Verdict;
 
-// A book that passed checks 19 to 22, by the number of its doses and the sum of their milligrams, or the first check that
-// failed and its place.
+// A book that passed checks 19 to 22, by the number of its doses and the sum of their milligrams, or the first check
+// that failed and its place.
 pub enum Weighed {
     Doses(u32, u64),
     Unsound(u32, u32),

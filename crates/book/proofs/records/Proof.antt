@@ -13,7 +13,9 @@ use Rattle.book.proofs.records.Statement.{statement}
 use Rattle.book.proofs.records.Tie as tie
 
 abbrev Inv-loop : tie.InvT-loop
-Inv-loop edition book at₀ count₀ sum₀ at count sum = (recordsCheck (isKnown edition) book (places book) ≡ recordsCheck (isKnown edition) book (placesFrom book (length book - at) at))
+Inv-loop edition book at₀ count₀ sum₀ at count sum =
+    (recordsCheck (isKnown edition) book (places book)
+    ≡ recordsCheck (isKnown edition) book (placesFrom book (length book - at) at))
     × (length (doses book) ≡ count + length (dosesOf book (placesFrom book (length book - at) at)))
     × (sumOf (doses book) ≡ sum + sumOf (dosesOf book (placesFrom book (length book - at) at)))
     × (count ≤ at)
@@ -62,13 +64,13 @@ loop-less : tie.Need-loop-less Inv-loop μ-loop
 loop-less c = search needs
 
 loop-again : tie.Need-loop-again Inv-loop μ-loop
-loop-again c = (search laws.turn, search laws.count-weighed, search laws.sum-weighed, search needs, search needs)
+loop-again c = (search laws.turn, search laws.counted, search laws.summed, search needs, search needs)
 
 loop-less-2 : tie.Need-loop-less-2 Inv-loop μ-loop
 loop-less-2 c = search needs
 
 loop-again-2 : tie.Need-loop-again-2 Inv-loop μ-loop
-loop-again-2 c = (search laws.turn, search laws.count-remark, search laws.sum-remark, search needs, search needs)
+loop-again-2 c = (search laws.turn, search (laws.skipped length), search (laws.skipped sumOf), search needs, search needs)
 
 returns-2 : tie.Need-returns-2 Inv-loop μ-loop
 returns-2 c = search laws.spent

@@ -13,7 +13,8 @@ use Rattle.book.proofs.buffer.write.Statement.{statement}
 use Rattle.book.proofs.buffer.write.Tie as tie
 
 abbrev Inv-loop : tie.InvT-loop
-Inv-loop book out₀ at₀ i₀ out at i = (sets out₀ 0 (numbersOf (doses book)) ≡ sets out i (numbersOf (dosesOf book (placesFrom book (length book - at) at))))
+Inv-loop book out₀ at₀ i₀ out at i =
+    (sets out₀ 0 (numbersOf (doses book)) ≡ sets out i (numbersOf (dosesOf book (placesFrom book (length book - at) at))))
     × (length out ≡ length out₀)
 
 abbrev μ-loop : tie.MeasureT-loop
@@ -26,7 +27,7 @@ same-length : tie.Need-same-length Inv-loop μ-loop
 same-length c = search needs
 
 returns : tie.Need-returns Inv-loop μ-loop
-returns c = search (laws.full)
+returns c = search laws.full
 
 record-end-requires : tie.Need-record-end-requires Inv-loop μ-loop
 record-end-requires c κs = search needs

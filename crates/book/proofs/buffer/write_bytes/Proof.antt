@@ -15,7 +15,9 @@ use Rattle.book.proofs.buffer.write_bytes.Statement.{statement}
 use Rattle.book.proofs.buffer.write_bytes.Tie as tie
 
 abbrev Inv-loop : tie.InvT-loop
-Inv-loop book out₀ at₀ i₀ out at i = (sets out₀ 0 (numberBytes (numbersOf (doses book))) ≡ sets out i (numberBytes (numbersOf (dosesOf book (placesFrom book (length book - at) at)))))
+Inv-loop book out₀ at₀ i₀ out at i =
+    (sets out₀ 0 (numberBytes (numbersOf (doses book)))
+    ≡ sets out i (numberBytes (numbersOf (dosesOf book (placesFrom book (length book - at) at)))))
     × (length out ≡ length out₀)
 
 abbrev μ-loop : tie.MeasureT-loop
@@ -52,7 +54,8 @@ loop-less : tie.Need-loop-less Inv-loop μ-loop
 loop-less c = search needs
 
 loop-again : tie.Need-loop-again Inv-loop μ-loop
-loop-again c = (search (laws.turn-weighed (λ (ds : List Dose). numberBytes (numbersOf ds)) 8 laws.bytes-more), search needs)
+loop-again c =
+    (search (laws.turn-weighed (λ (ds : List Dose). numberBytes (numbersOf ds)) 8 laws.bytes-more), search needs)
 
 loop-less-2 : tie.Need-loop-less-2 Inv-loop μ-loop
 loop-less-2 c = search needs
