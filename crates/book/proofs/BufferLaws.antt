@@ -1,5 +1,5 @@
--- Stores in a buffer (out-of-room, sets-append, sets-past), those of one number and of one dose (two-numbers, four-bytes,
--- eight-bytes), and a walk that stores a book's doses, for each way through a turn (turn-remark, turn-weighed, done, full).
+-- Stores in a buffer (out-of-room, sets-append, sets-past), those of a number and of a dose (two-numbers, four-bytes,
+-- eight-bytes), and a walk that stores a book's doses, for each way through it (turn-remark, turn-weighed, done, full).
 -- For callers: numbers-room, bytes-room, at-front.
 use Prim.Native.Nat.{ℕ, suc, _+_, _-_, _*_, _/_, _%_, _≤_, _<_}
 use mathlib.Core.Path.{_≡_, refl, sym, _∙_}

@@ -118,7 +118,8 @@ fn length_check(book: &[u8]) -> Verdict
 // Checks 20 to 22 for each record in turn, with the number and the sum of the doses.
 fn records(edition: u32, book: &[u8]) -> Weighed
     requires { ⌜ length (now book) ≤ 4096 ⌝ }
-    ensures { λ r. ⌜ r ≡ weighedAs (recordsCheck (isKnown edition) (now (book .entry)) (places (now (book .entry)))) (length (doses (now (book .entry)))) (sumOf (doses (now (book .entry)))) ⌝ }
+    ensures { λ r. ⌜ r ≡ weighedAs (recordsCheck (isKnown edition) (now (book .entry)) (places (now (book .entry))))
+        (length (doses (now (book .entry)))) (sumOf (doses (now (book .entry)))) ⌝ }
 {
     let mut at = 0;
     let mut count = 0;

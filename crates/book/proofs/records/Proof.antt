@@ -70,7 +70,8 @@ loop-less-2 : tie.Need-loop-less-2 Inv-loop μ-loop
 loop-less-2 c = search needs
 
 loop-again-2 : tie.Need-loop-again-2 Inv-loop μ-loop
-loop-again-2 c = (search laws.turn, search (laws.skipped length), search (laws.skipped sumOf), search needs, search needs)
+loop-again-2 c =
+    (search laws.turn, search (laws.skipped length), search (laws.skipped sumOf), search needs, search needs)
 
 returns-2 : tie.Need-returns-2 Inv-loop μ-loop
 returns-2 c = search laws.spent

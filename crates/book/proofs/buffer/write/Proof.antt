@@ -14,7 +14,8 @@ use Rattle.book.proofs.buffer.write.Tie as tie
 
 abbrev Inv-loop : tie.InvT-loop
 Inv-loop book out₀ at₀ i₀ out at i =
-    (sets out₀ 0 (numbersOf (doses book)) ≡ sets out i (numbersOf (dosesOf book (placesFrom book (length book - at) at))))
+    (sets out₀ 0 (numbersOf (doses book))
+    ≡ sets out i (numbersOf (dosesOf book (placesFrom book (length book - at) at))))
     × (length out ≡ length out₀)
 
 abbrev μ-loop : tie.MeasureT-loop
