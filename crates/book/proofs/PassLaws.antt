@@ -32,6 +32,7 @@ use Rattle.book.specs.Book.{
   bookCheck,
 }
 use Rattle.book.specs.Doses.{dosesOf, doses, sumOf, weighedAs, weighed}
+use Rattle.book.proofs.WeighLaws.{short}
 
 -- 22: oxide is 1 to 999, milligrams 1 to 5,000,000
 and-true : (a b : Bool) → (a && b) ≡ true → (a ≡ true) × (b ≡ true)
@@ -65,8 +66,8 @@ module _ (known : ℕ → Bool) (b : List ℕ) where
 
   module _ (h : bookCheck known b ≡ Pass) where
     pub pass-length : length b ≤ bookLimit
-    unfolding bookCheck lengthCheck
-    pass-length = leb-true _ _ (inverted _ _ _ _ (both-inverted _ _ h .0) .0)
+    unfolding bookCheck
+    pass-length = short b refl (both-inverted _ _ h .0)
 
     pub pass-records : recordsCheck known b (places b) ≡ Pass
     unfolding bookCheck
