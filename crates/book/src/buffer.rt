@@ -1,9 +1,10 @@
 // Doses in a buffer, as numbers and as bytes.
 ghost use mathlib.Core.Path.{_≡_};
-ghost use Prim.Native.Nat.{ℕ, _<_};
+ghost use Prim.Native.Nat.{_+_, _<_, _^_};
+ghost use mathlib.Core.List.{[], _∷_};
 ghost use lib.ListN.{set};
 ghost use lib.Seq.{sets};
-ghost use Rattle.book.specs.Doses.{bytesOf, withDoses, withDoseBytes};
+ghost use Rattle.book.specs.Doses.{numbersOf, bytesOf, numberBytes, withDoses, withDoseBytes};
 use crate::dose::Dose;
 
 // Puts a number at a place of the buffer, where that has it.
@@ -13,6 +14,15 @@ fn put(out: &mut [u32], i: usize, n: u32)
     if i < out.len() {
         out[i] = n;
     }
+}
+
+// Puts a dose's two numbers from a place of the buffer on, as far as that has them.
+fn put_dose(out: &mut [u32], i: usize, dose: Dose)
+    requires { ⌜ i + 2 < 2 ^ 64 ⌝ }
+    ensures { λ r. ⌜ now (out .exit) ≡ sets (now (out .entry)) i (numbersOf (dose ∷ [])) ⌝ }
+{
+    put(out, i, dose.oxide.0 as u32);
+    put(out, i + 1, dose.milligrams.0);
 }
 
 // Writes a book's doses at the front of a buffer, oxide then milligrams, as far as they fit.
@@ -25,14 +35,12 @@ pub fn write(book: &[u8], out: &mut [u32])
         if out.len() <= i {
             return;
         }
-        let kind = book[at];
-        if 128 <= kind {
-            let dose = Dose::at(book, at);
-            put(out, i, dose.oxide.0 as u32);
-            put(out, i + 1, dose.milligrams.0);
+        let here = at;
+        at = crate::record_end(book, here);
+        if crate::is_weighed(book[here]) {
+            put_dose(out, i, Dose::at(book, here));
             i += 2;
         }
-        at += 1 + kind as usize % 16;
     }
 }
 
@@ -47,13 +55,22 @@ fn put_byte(out: &mut [u8], i: usize, b: u8)
 
 // Puts a number's four bytes from a place of the buffer on, as far as that has them.
 fn put_number(out: &mut [u8], i: usize, n: u32)
-    requires { ⌜ i < 9223372036854775808 ⌝ }
+    requires { ⌜ i + 4 < 2 ^ 64 ⌝ }
     ensures { λ r. ⌜ now (out .exit) ≡ sets (now (out .entry)) i (bytesOf n) ⌝ }
 {
     put_byte(out, i, (n / 16777216 % 256) as u8);
     put_byte(out, i + 1, (n / 65536 % 256) as u8);
     put_byte(out, i + 2, (n / 256 % 256) as u8);
     put_byte(out, i + 3, (n % 256) as u8);
+}
+
+// Puts a dose's eight bytes from a place of the buffer on, as far as that has them.
+fn put_dose_bytes(out: &mut [u8], i: usize, dose: Dose)
+    requires { ⌜ i + 8 < 2 ^ 64 ⌝ }
+    ensures { λ r. ⌜ now (out .exit) ≡ sets (now (out .entry)) i (numberBytes (numbersOf (dose ∷ []))) ⌝ }
+{
+    put_number(out, i, dose.oxide.0 as u32);
+    put_number(out, i + 4, dose.milligrams.0);
 }
 
 // Writes a book's doses at the front of a buffer of bytes, four to a number, big-endian, as far as they fit.
@@ -66,13 +83,11 @@ pub fn write_bytes(book: &[u8], out: &mut [u8])
         if out.len() <= i {
             return;
         }
-        let kind = book[at];
-        if 128 <= kind {
-            let dose = Dose::at(book, at);
-            put_number(out, i, dose.oxide.0 as u32);
-            put_number(out, i + 4, dose.milligrams.0);
+        let here = at;
+        at = crate::record_end(book, here);
+        if crate::is_weighed(book[here]) {
+            put_dose_bytes(out, i, Dose::at(book, here));
             i += 8;
         }
-        at += 1 + kind as usize % 16;
     }
 }

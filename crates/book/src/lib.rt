@@ -1,9 +1,10 @@
 // A book of recipes: kinds, records and doses over the book's bytes alone. Checks 19 to 22.
 ghost use mathlib.Core.Path.{_≡_};
-ghost use Prim.Native.Nat.{ℕ, _+_, _≤_, _<_};
+ghost use Prim.Native.Nat.{_≤_, _<_};
 ghost use lib.ListN.{length};
-ghost use Rattle.book.specs.Kinds.{isKnown};
-ghost use Rattle.book.specs.Book.{kindAllowed, weighedRight, recordCheck, lengthCheck, recordsCheck, places};
+ghost use Rattle.book.specs.Kinds.{isWeighed, isKnown};
+ghost use Rattle.book.specs.Book.{recordEnd, places, kindAllowed, bodyFits, weighedRight};
+ghost use Rattle.book.specs.Book.{recordCheck, recordsCheck, lengthCheck};
 ghost use Rattle.book.specs.Doses.{doses, sumOf, weighedAs, weighed};
 
 pub mod buffer;
@@ -14,8 +15,8 @@ pub use dose::Milligrams;
 pub use dose::Oxide;
 use format::Verdict;
 
-// A book that passed checks 19 to 22, by the number of its doses and the sum of their milligrams, or the first check that
-// failed and its place.
+// A book that passed checks 19 to 22, by the number of its doses and the sum of their milligrams, or the first check
+// that failed and its place.
 pub enum Weighed {
     Doses(u32, u64),
     Unsound(u32, u32),
@@ -28,6 +29,21 @@ impl Book {
     pub const LIMIT: usize = 4096;
 
     pub const TAG: u32 = 20001;
+}
+
+// Whether a kind is weighed.
+fn is_weighed(kind: u8) -> bool
+    ensures { λ r. ⌜ r ≡ isWeighed kind ⌝ }
+{
+    128 <= kind
+}
+
+// The place right behind the body of the record at a place.
+fn record_end(book: &[u8], at: usize) -> usize
+    requires { ⌜ at < length (now book) ⌝ }
+    ensures { λ r. ⌜ r ≡ recordEnd (now (book .entry)) at ⌝ }
+{
+    at + 1 + book[at] as usize % 16
 }
 
 // Whether an edition knows a kind: each kind and the edition that lists it.
@@ -47,10 +63,18 @@ fn known(edition: u32, kind: u8) -> bool
 fn kind_allowed(edition: u32, kind: u8) -> bool
     ensures { λ r. ⌜ r ≡ kindAllowed (isKnown edition) kind ⌝ }
 {
-    if kind < 128 {
+    if !is_weighed(kind) {
         return true;
     }
     known(edition, kind)
+}
+
+// Check 21.
+fn body_fits(book: &[u8], at: usize) -> bool
+    requires { ⌜ at < length (now book) ⌝ }
+    ensures { λ r. ⌜ r ≡ bodyFits (now (book .entry)) at ⌝ }
+{
+    record_end(book, at) <= book.len()
 }
 
 // Check 22.
@@ -58,8 +82,7 @@ fn weighed_right(book: &[u8], at: usize) -> bool
     requires { ⌜ at < length (now book) ⌝ }
     ensures { λ r. ⌜ r ≡ weighedRight (now (book .entry)) at ⌝ }
 {
-    let kind = book[at];
-    if kind < 128 {
+    if !is_weighed(book[at]) {
         return true;
     }
     Dose::at(book, at).lawful()
@@ -70,12 +93,10 @@ fn record_check(edition: u32, book: &[u8], at: usize) -> Verdict
     requires { ⌜ (at < length (now book)) × (length (now book) ≤ 4096) ⌝ }
     ensures { λ r. ⌜ r ≡ recordCheck (isKnown edition) (now (book .entry)) at ⌝ }
 {
-    let kind = book[at];
-    if !kind_allowed(edition, kind) {
+    if !kind_allowed(edition, book[at]) {
         return Verdict::Fail(20, at as u32);
     }
-    let end = at + 1 + kind as usize % 16;
-    if book.len() < end {
+    if !body_fits(book, at) {
         return Verdict::Fail(21, at as u32);
     }
     if !weighed_right(book, at) {
@@ -97,7 +118,8 @@ fn length_check(book: &[u8]) -> Verdict
 // Checks 20 to 22 for each record in turn, with the number and the sum of the doses.
 fn records(edition: u32, book: &[u8]) -> Weighed
     requires { ⌜ length (now book) ≤ 4096 ⌝ }
-    ensures { λ r. ⌜ r ≡ weighedAs (recordsCheck (isKnown edition) (now (book .entry)) (places (now (book .entry)))) (length (doses (now (book .entry)))) (sumOf (doses (now (book .entry)))) ⌝ }
+    ensures { λ r. ⌜ r ≡ weighedAs (recordsCheck (isKnown edition) (now (book .entry)) (places (now (book .entry))))
+        (length (doses (now (book .entry)))) (sumOf (doses (now (book .entry)))) ⌝ }
 {
     let mut at = 0;
     let mut count = 0;
@@ -107,13 +129,13 @@ fn records(edition: u32, book: &[u8]) -> Weighed
         if let Verdict::Fail(number, place) = v {
             return Weighed::Unsound(number, place);
         }
-        let kind = book[at];
-        if 128 <= kind {
-            let dose = Dose::at(book, at);
+        let here = at;
+        at = record_end(book, here);
+        if is_weighed(book[here]) {
+            let dose = Dose::at(book, here);
             sum += dose.milligrams.0 as u64;
             count += 1;
         }
-        at += 1 + kind as usize % 16;
     }
     Weighed::Doses(count, sum)
 }

@@ -1,0 +1,111 @@
+-- Stores in a buffer (out-of-room, sets-append, sets-past), those of a number and of a dose (two-numbers, four-bytes,
+-- eight-bytes), and a walk that stores a book's doses, for each way through it (turn-remark, turn-weighed, done, full).
+-- For callers: numbers-room, bytes-room, at-front.
+use Prim.Native.Nat.{ℕ, suc, _+_, _-_, _*_, _/_, _%_, _≤_, _<_}
+use mathlib.Core.Path.{_≡_, refl, sym, _∙_}
+use mathlib.Core.List.{List, [], _∷_, _++_}
+use mathlib.Core.Bool.{Bool, true, false}
+use lib.ListN.{length, set, drop}
+use lib.Seq.{sets, sets-eq, set-out}
+use native.Mathlib.Nat.{add-zero}
+use native.Mathlib.Numerals.{add-one}
+use native.Mathlib.Omega.{arith}
+use Rattle.book.specs.declared.dose.Dose.{Dose}
+use Rattle.book.specs.Kinds.{isWeighed}
+use Rattle.book.specs.Book.{kindAt, recordEnd, placesFrom, doseAt}
+use Rattle.book.specs.Doses.{dosesOf, numbersPerDose, numbersOf, bytesOf, numberBytes}
+use Rattle.book.proofs.RecordsLaws.{weighed, remark, no-doses}
+
+pub out-of-room : (out : List ℕ) (i n : ℕ) → length out ≤ i → out ≡ set out i n
+out-of-room out i n h = sym (set-out out i n h)
+
+pub sets-append : (out : List ℕ) (i : ℕ) (xs ys : List ℕ)
+    → sets out i (xs ++ ys) ≡ sets (sets out i xs) (i + length xs) ys
+sets-append out i [] ys = rw add-zero
+sets-append out i (x ∷ xs) ys =
+    let e : i + suc (length xs) ≡ suc i + length xs = omega arith in
+    rw e (sets-append (set out i x) (suc i) xs ys)
+
+pub sets-past : (out : List ℕ) (i : ℕ) (xs : List ℕ) → length out ≤ i → sets out i xs ≡ out
+sets-past out i [] h = refl
+sets-past out i (x ∷ xs) h = let e = set-out out i x h in rw e (sets-past out (suc i) xs (omega arith))
+
+pub two-numbers : (out : List ℕ) (i : ℕ) (dose : Dose) {o₁ o₂ : List ℕ} → o₁ ≡ set out i (dose .oxide .0)
+    → o₂ ≡ set o₁ (i + 1) (dose .milligrams .0) → o₂ ≡ sets out i (numbersOf (dose ∷ []))
+unfolding numbersOf
+two-numbers out i dose p q = q ∙ rw (p, add-one)
+
+pub four-bytes : (out : List ℕ) (i n : ℕ) {o₁ o₂ o₃ o₄ : List ℕ} → o₁ ≡ set out i (n / 16777216 % 256)
+    → o₂ ≡ set o₁ (i + 1) (n / 65536 % 256) → o₃ ≡ set o₂ (i + 2) (n / 256 % 256) → o₄ ≡ set o₃ (i + 3) (n % 256)
+    → o₄ ≡ sets out i (bytesOf n)
+four-bytes out i n p q r s =
+    let f : i + 2 ≡ suc (suc i) = omega arith in
+    let g : i + 3 ≡ suc (suc (suc i)) = omega arith in
+    s ∙ rw (r, q, p, g, f, add-one)
+
+pub eight-bytes : (out : List ℕ) (i : ℕ) (dose : Dose) {o₁ o₂ : List ℕ} → o₁ ≡ sets out i (bytesOf (dose .oxide .0))
+    → o₂ ≡ sets o₁ (i + 4) (bytesOf (dose .milligrams .0)) → o₂ ≡ sets out i (numberBytes (numbersOf (dose ∷ [])))
+unfolding numbersOf numberBytes
+eight-bytes out i dose p q =
+    q ∙ rw p (sym (sets-append out i (bytesOf (dose .oxide .0)) (bytesOf (dose .milligrams .0))))
+
+-- doses spelled as numbers, and as bytes: none, and one more
+pub numbers-none : numbersOf [] ≡ []
+unfolding numbersOf
+numbers-none = refl
+
+pub numbers-more : (out : List ℕ) (i : ℕ) (dose : Dose) (rest : List Dose)
+    → sets out i (numbersOf (dose ∷ rest)) ≡ sets (sets out i (numbersOf (dose ∷ []))) (i + 2) (numbersOf rest)
+unfolding numbersOf
+numbers-more out i dose rest = sets-append out i (numbersOf (dose ∷ [])) (numbersOf rest)
+
+pub bytes-none : numberBytes (numbersOf []) ≡ []
+unfolding numbersOf numberBytes
+bytes-none = refl
+
+pub bytes-more : (out : List ℕ) (i : ℕ) (dose : Dose) (rest : List Dose)
+    → sets out i (numberBytes (numbersOf (dose ∷ rest)))
+    ≡ sets (sets out i (numberBytes (numbersOf (dose ∷ [])))) (i + 8) (numberBytes (numbersOf rest))
+unfolding numbersOf numberBytes
+bytes-more out i dose rest = sets-append out i (numberBytes (numbersOf (dose ∷ []))) (numberBytes (numbersOf rest))
+
+-- a turn of a walk that spells the doses in either way: v is what the buffer is to be, and that is what it is now, with
+-- the doses that are left from i on
+module _ (spell : List Dose → List ℕ) where
+  pub turn-remark : (b out : List ℕ) (at i : ℕ) {end : ℕ} {w : Bool} {v : List ℕ} → at < length b
+      → v ≡ sets out i (spell (dosesOf b (placesFrom b (length b - at) at)))
+      → end ≡ recordEnd b at → w ≡ isWeighed (kindAt b at) → w ≡ false
+      → v ≡ sets out i (spell (dosesOf b (placesFrom b (length b - end) end)))
+  turn-remark b out at i l inv e h k = inv ∙ rw (remark b at l e h k)
+
+  pub turn-weighed : (width : ℕ)
+      → ((out : List ℕ) (i : ℕ) (dose : Dose) (rest : List Dose)
+      → sets out i (spell (dose ∷ rest)) ≡ sets (sets out i (spell (dose ∷ []))) (i + width) (spell rest))
+      → (b out : List ℕ) (at i : ℕ) {end : ℕ} {w : Bool} {dose : Dose} {v after : List ℕ} → at < length b
+      → v ≡ sets out i (spell (dosesOf b (placesFrom b (length b - at) at)))
+      → end ≡ recordEnd b at → w ≡ isWeighed (kindAt b at) → w ≡ true → dose ≡ doseAt b at
+      → after ≡ sets out i (spell (dose ∷ []))
+      → v ≡ sets after (i + width) (spell (dosesOf b (placesFrom b (length b - end) end)))
+  turn-weighed width more b out at i {dose = dose} l inv e h k d g =
+      rw g (inv ∙ rw (weighed b at l e h k d) (more out i dose _))
+
+  pub done : (spell [] ≡ []) → (b out : List ℕ) (at i : ℕ) {v : List ℕ}
+      → v ≡ sets out i (spell (dosesOf b (placesFrom b (length b - at) at))) → length b ≤ at → out ≡ v
+  done none b out at i inv h = sym (inv ∙ rw (no-doses b at h, none))
+
+pub full : (out left : List ℕ) (i : ℕ) {v : List ℕ} → v ≡ sets out i left → length out ≤ i → out ≡ v
+full out left i inv h = sym (inv ∙ sets-past out i left h)
+
+-- for callers: how much room the doses take, and what they leave where there is room
+pub numbers-room : (ds : List Dose) → length (numbersOf ds) ≡ numbersPerDose * length ds
+unfolding numbersOf
+numbers-room [] = refl
+numbers-room (dose ∷ rest) = let k = numbers-room rest in omega arith
+
+pub bytes-room : (ns : List ℕ) → length (numberBytes ns) ≡ 4 * length ns
+unfolding numberBytes
+bytes-room [] = refl
+bytes-room (n ∷ rest) = let k = bytes-room rest in omega arith
+
+pub at-front : (out vs : List ℕ) → length vs ≤ length out → sets out 0 vs ≡ vs ++ drop (length vs) out
+at-front out vs h = let e : 0 + length vs ≡ length vs = omega arith in sets-eq vs out 0 (omega arith) ∙ rw e

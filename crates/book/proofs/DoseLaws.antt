@@ -1,0 +1,40 @@
+-- A dose from the numbers that were read (read, past), and check 22 for each way through it (oxide-low, oxide-high,
+-- weight-low, weight-last).
+use Prim.Native.Nat.{ℕ, _+_, _≤_, _<_}
+use mathlib.Core.Path.{_≡_}
+use mathlib.Core.List.{List}
+use mathlib.Core.Bool.{false}
+use lib.ListN.{length}
+use lib.Dec.{leb}
+use native.Mathlib.Omega.{arith}
+use borrow.Author.Tests.{le-leb, lt-leb}
+use Rattle.be.specs.Numbers.{be16At, be32At}
+use Rattle.be.proofs.ByteLaws.{be16-past, be32-past}
+use Rattle.book.specs.declared.dose.Dose.{Dose}
+use Rattle.book.specs.Book.{doseAt, doseLawful}
+
+pub read : (b : List ℕ) (at : ℕ) {o m : ℕ} → o ≡ be16At b (at + 1) → m ≡ be32At b (at + 3)
+    → _≡_ {A = Dose} (record { oxide = record { 0 = o }; milligrams = record { 0 = m } }) (doseAt b at)
+read b at p q = rw (p, q)
+
+pub past : (b : List ℕ) (at : ℕ) → length b ≤ at
+    → _≡_ {A = Dose} (record { oxide = record { 0 = 0 }; milligrams = record { 0 = 0 } }) (doseAt b at)
+past b at h = read b at (be16-past b (at + 1) (omega arith)) (be32-past b (at + 3) (omega arith))
+
+module _ (dose : Dose) where
+  pub oxide-low : dose .oxide .0 < 1 → false ≡ doseLawful dose
+  unfolding doseLawful
+  oxide-low h = rw (lt-leb 1 (dose .oxide .0) h)
+
+  pub oxide-high : 1 ≤ dose .oxide .0 → 999 < dose .oxide .0 → false ≡ doseLawful dose
+  unfolding doseLawful
+  oxide-high l h = rw (le-leb 1 (dose .oxide .0) l, lt-leb (dose .oxide .0) 999 h)
+
+  module _ (l : 1 ≤ dose .oxide .0) (h : dose .oxide .0 ≤ 999) where
+    pub weight-low : dose .milligrams .0 < 1 → false ≡ doseLawful dose
+    unfolding doseLawful
+    weight-low k = rw (le-leb 1 (dose .oxide .0) l, le-leb (dose .oxide .0) 999 h, lt-leb 1 (dose .milligrams .0) k)
+
+    pub weight-last : 1 ≤ dose .milligrams .0 → leb (dose .milligrams .0) 5000000 ≡ doseLawful dose
+    unfolding doseLawful
+    weight-last k = rw (le-leb 1 (dose .oxide .0) l, le-leb (dose .oxide .0) 999 h, le-leb 1 (dose .milligrams .0) k)

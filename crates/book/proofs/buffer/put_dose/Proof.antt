@@ -1,0 +1,28 @@
+-- The two stores, one behind the other.
+-- Assumes nothing.
+use Rattle.book.proofs.BufferLaws as laws
+use borrow.Author.Needs.{needs}
+use Rattle.book.proofs.buffer.put_dose.Statement.{statement}
+use Rattle.book.proofs.buffer.put_dose.Tie as tie
+
+cast-put : tie.Need-cast-put
+cast-put c = search needs
+
+put-requires : tie.Need-put-requires
+put-requires c κs = search needs
+
+add-put : tie.Need-add-put
+add-put c = search needs
+
+put-requires-2 : tie.Need-put-requires-2
+put-requires-2 c κs = search needs
+
+same-length : tie.Need-same-length
+same-length c = search needs
+
+returns : tie.Need-returns
+returns c = search laws.two-numbers
+
+pub put-dose-spec : {M : Type 1} → statement M
+put-dose-spec =
+    tie.close (tie.spec cast-put put-requires add-put put-requires-2 same-length returns)
