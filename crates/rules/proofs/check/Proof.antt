@@ -4,22 +4,13 @@ use Rattle.rules.specs.Rules.{rulesCheck}
 use borrow.Author.Needs.{needs}
 use Rattle.rules.proofs.check.Statement.{statement}
 use Rattle.rules.proofs.check.Tie as tie
-use Rattle.rules.proofs.check.Reads as reads
-use Rattle.rules.proofs.check.Lts as lts
-use Rattle.rules.proofs.groups.check.Reads as groups-check-reads
-use Rattle.rules.proofs.lines.check.Reads as lines-check-reads
-use Rattle.rules.proofs.size_tag_check.Reads as size-tag-check-reads
-use Rattle.rules.proofs.texts.check.Reads as texts-check-reads
 
--- src/lib.rt:32:9
 check-requires : tie.Need-check-requires
 check-requires c κs = search needs
 
--- src/lib.rt:33:26
 enum-known-v : tie.Need-enum-known-v
 enum-known-v c = search needs
 
--- src/lib.rt:34:9
 returns : tie.Need-returns
 unfolding rulesCheck
 returns c = search (went, halted) depth 12
@@ -27,15 +18,12 @@ returns c = search (went, halted) depth 12
 enum-told : tie.Need-enum-told
 enum-told c = search needs
 
--- src/lib.rt:36:9
 size-tag-check-requires : tie.Need-size-tag-check-requires
 size-tag-check-requires c κs = search needs
 
--- src/lib.rt:37:26
 enum-known-v-2 : tie.Need-enum-known-v-2
 enum-known-v-2 c = search needs
 
--- src/lib.rt:38:9
 returns-2 : tie.Need-returns-2
 unfolding rulesCheck
 returns-2 c = search (went, halted) depth 12
@@ -43,15 +31,12 @@ returns-2 c = search (went, halted) depth 12
 enum-told-2 : tie.Need-enum-told-2
 enum-told-2 c = search needs
 
--- src/lib.rt:40:9
 check-requires-2 : tie.Need-check-requires-2
 check-requires-2 c κs = search needs
 
--- src/lib.rt:41:26
 enum-known-v-3 : tie.Need-enum-known-v-3
 enum-known-v-3 c = search needs
 
--- src/lib.rt:42:9
 returns-3 : tie.Need-returns-3
 unfolding rulesCheck
 returns-3 c = search (went, halted) depth 12
@@ -59,11 +44,9 @@ returns-3 c = search (went, halted) depth 12
 enum-told-3 : tie.Need-enum-told-3
 enum-told-3 c = search needs
 
--- src/lib.rt:44:5
 check-requires-3 : tie.Need-check-requires-3
 check-requires-3 c κs = search needs
 
--- src/lib.rt:29:1
 returns-4 : tie.Need-returns-4
 unfolding rulesCheck
 returns-4 c = search (went, halted) depth 12

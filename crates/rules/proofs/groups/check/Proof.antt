@@ -4,24 +4,13 @@ use Rattle.rules.specs.Groups.{groupsCheck}
 use borrow.Author.Needs.{needs}
 use Rattle.rules.proofs.groups.check.Statement.{statement}
 use Rattle.rules.proofs.groups.check.Tie as tie
-use Rattle.rules.proofs.groups.check.Reads as reads
-use Rattle.rules.proofs.groups.check.Lts as lts
-use Rattle.rules.proofs.groups.files.Reads as files-reads
-use Rattle.rules.proofs.groups.led_groups.Reads as led-groups-reads
-use Rattle.rules.proofs.groups.names.Reads as names-reads
-use Rattle.rules.proofs.groups.script_pairs.Reads as script-pairs-reads
-use Rattle.rules.proofs.groups.signature_pairs.Reads as signature-pairs-reads
-use Rattle.rules.proofs.tags.count.Reads as count-reads
 
--- src/groups.rt:216:9
 signature-pairs-requires : tie.Need-signature-pairs-requires
 signature-pairs-requires c κs = search needs
 
--- src/groups.rt:217:26
 enum-known-v : tie.Need-enum-known-v
 enum-known-v c = search needs
 
--- src/groups.rt:218:9
 returns : tie.Need-returns
 unfolding groupsCheck
 returns c = search (went, halted) depth 12
@@ -29,15 +18,12 @@ returns c = search (went, halted) depth 12
 enum-told : tie.Need-enum-told
 enum-told c = search needs
 
--- src/groups.rt:220:9
 script-pairs-requires : tie.Need-script-pairs-requires
 script-pairs-requires c κs = search needs
 
--- src/groups.rt:221:26
 enum-known-v-2 : tie.Need-enum-known-v-2
 enum-known-v-2 c = search needs
 
--- src/groups.rt:222:9
 returns-2 : tie.Need-returns-2
 unfolding groupsCheck
 returns-2 c = search (went, halted) depth 12
@@ -45,19 +31,15 @@ returns-2 c = search (went, halted) depth 12
 enum-told-2 : tie.Need-enum-told-2
 enum-told-2 c = search needs
 
--- src/groups.rt:224:9
 count-requires : tie.Need-count-requires
 count-requires c κs = search needs
 
--- src/groups.rt:225:9
 files-requires : tie.Need-files-requires
 files-requires c κs = search needs
 
--- src/groups.rt:226:26
 enum-known-v-3 : tie.Need-enum-known-v-3
 enum-known-v-3 c = search needs
 
--- src/groups.rt:227:9
 returns-3 : tie.Need-returns-3
 unfolding groupsCheck
 returns-3 c = let at-count = c .before .before .before .before in rw (← (at-count .count .ensures)) (search (went, halted) depth 12)
@@ -65,15 +47,12 @@ returns-3 c = let at-count = c .before .before .before .before in rw (← (at-co
 enum-told-3 : tie.Need-enum-told-3
 enum-told-3 c = search needs
 
--- src/groups.rt:229:9
 names-requires : tie.Need-names-requires
 names-requires c κs = search needs
 
--- src/groups.rt:230:26
 enum-known-v-4 : tie.Need-enum-known-v-4
 enum-known-v-4 c = search needs
 
--- src/groups.rt:231:9
 returns-4 : tie.Need-returns-4
 unfolding groupsCheck
 returns-4 c = let at-count = c .before .before .before .before .before .before .before in rw (← (at-count .count .ensures)) (search (went, halted) depth 12)
@@ -81,11 +60,9 @@ returns-4 c = let at-count = c .before .before .before .before .before .before .
 enum-told-4 : tie.Need-enum-told-4
 enum-told-4 c = search needs
 
--- src/groups.rt:233:5
 led-groups-requires : tie.Need-led-groups-requires
 led-groups-requires c κs = search needs
 
--- src/groups.rt:213:1
 returns-5 : tie.Need-returns-5
 unfolding groupsCheck
 returns-5 c = let at-count = c .before .before .before .before .before .before .before in rw (← (at-count .count .ensures)) (search (went, halted) depth 12)

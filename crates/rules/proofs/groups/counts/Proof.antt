@@ -5,30 +5,21 @@ use Rattle.rules.proofs.TestLaws.{made}
 use borrow.Author.Needs.{needs}
 use Rattle.rules.proofs.groups.counts.Statement.{statement}
 use Rattle.rules.proofs.groups.counts.Tie as tie
-use Rattle.rules.proofs.groups.counts.Reads as reads
-use Rattle.rules.proofs.groups.counts.Lts as lts
-use Rattle.rules.proofs.tags.count.Reads as count-reads
-use Rattle.rules.proofs.tags.has.Reads as has-reads
 
--- src/groups.rt:26:9
 has-requires : tie.Need-has-requires
 has-requires c κs = search needs
 
--- src/groups.rt:27:9
 returns : tie.Need-returns
 unfolding countCheck
 returns c = search (passed, stopped, answers, made) depth 8
 
--- src/groups.rt:29:8
 count-requires : tie.Need-count-requires
 count-requires c κs = search needs
 
--- src/groups.rt:30:9
 returns-2 : tie.Need-returns-2
 unfolding countCheck
 returns-2 c = search (passed, stopped, answers, made) depth 8
 
--- src/groups.rt:23:1
 returns-3 : tie.Need-returns-3
 unfolding countCheck
 returns-3 c = search (passed, stopped, answers, made) depth 8

@@ -1,15 +1,12 @@
 -- The tags that are left decide. Assumes nothing.
 use borrow.Author.Needs.{needs}
-use mathlib.Core.Path.{_≡_, refl}
+use mathlib.Core.Path.{_≡_}
 use Prim.Native.Nat.{_≤_, _-_}
 use lib.ListN.{drop}
 use Rattle.rules.specs.Groups.{countsCheck, fileTags}
 use Rattle.rules.proofs.GroupsLaws as laws
 use Rattle.rules.proofs.groups.files.Statement.{statement}
 use Rattle.rules.proofs.groups.files.Tie as tie
-use Rattle.rules.proofs.groups.files.Reads as reads
-use Rattle.rules.proofs.groups.files.Lts as lts
-use Rattle.rules.proofs.groups.counts.Reads as counts-reads
 
 abbrev Inv-loop : tie.InvT-loop
 Inv-loop pkg header n i₀ i = (i ≤ 12) × (countsCheck pkg header n fileTags ≡ countsCheck pkg header n (drop i fileTags))
@@ -17,46 +14,36 @@ Inv-loop pkg header n i₀ i = (i ≤ 12) × (countsCheck pkg header n fileTags 
 abbrev μ-loop : tie.MeasureT-loop
 μ-loop pkg header n i₀ i = 12 - i
 
--- src/groups.rt:86:5
 loop-holds : tie.Need-loop-holds Inv-loop μ-loop
 loop-holds c = search needs
 
--- src/groups.rt:87:40
 mul-counts : tie.Need-mul-counts Inv-loop μ-loop
 mul-counts c = search needs
 
--- src/groups.rt:87:40
 array-read-counts : tie.Need-array-read-counts Inv-loop μ-loop
 array-read-counts c = search needs
 
--- src/groups.rt:87:13
 counts-requires : tie.Need-counts-requires Inv-loop μ-loop
 counts-requires c κs = search needs
 
--- src/groups.rt:88:30
 enum-known-v : tie.Need-enum-known-v Inv-loop μ-loop
 enum-known-v c = search needs
 
--- src/groups.rt:89:13
 returns : tie.Need-returns Inv-loop μ-loop
 returns c = search laws.ends
 
 enum-told : tie.Need-enum-told Inv-loop μ-loop
 enum-told c = search needs
 
--- src/groups.rt:91:9
 add-i : tie.Need-add-i Inv-loop μ-loop
 add-i c = search needs
 
--- src/groups.rt:86:5
 loop-less : tie.Need-loop-less Inv-loop μ-loop
 loop-less c = search needs
 
--- src/groups.rt:86:5
 loop-again : tie.Need-loop-again Inv-loop μ-loop
 loop-again c = (search needs, search laws.turn)
 
--- src/groups.rt:82:1
 returns-2 : tie.Need-returns-2 Inv-loop μ-loop
 returns-2 c = search laws.spent
 

@@ -4,56 +4,40 @@ use Rattle.rules.proofs.TestLaws.{first-of, second-of, made}
 use borrow.Author.Needs.{needs}
 use Rattle.rules.proofs.groups.led.Statement.{statement}
 use Rattle.rules.proofs.groups.led.Tie as tie
-use Rattle.rules.proofs.groups.led.Reads as reads
-use Rattle.rules.proofs.groups.led.Lts as lts
-use Rattle.rules.proofs.groups.whole.Reads as whole-reads
-use Rattle.rules.proofs.tags.count.Reads as count-reads
-use Rattle.rules.proofs.tags.has.Reads as has-reads
 
--- src/groups.rt:176:9
 count-requires : tie.Need-count-requires
 count-requires c κs = search needs
 
--- src/groups.rt:177:8
 has-requires : tie.Need-has-requires
 has-requires c κs = search needs
 
--- src/groups.rt:178:9
 whole-requires : tie.Need-whole-requires
 whole-requires c κs = search needs
 
--- src/groups.rt:178:9
 returns : tie.Need-returns
 unfolding ledCheck
 returns c = rw (← (c .before .before .before .count .ensures)) (search (first-of, second-of, made) depth 10)
 
--- src/groups.rt:180:8
 has-requires-2 : tie.Need-has-requires-2
 has-requires-2 c κs = search needs
 
--- src/groups.rt:181:9
 whole-requires-2 : tie.Need-whole-requires-2
 whole-requires-2 c κs = search needs
 
--- src/groups.rt:181:9
 returns-2 : tie.Need-returns-2
 unfolding ledCheck
 returns-2 c = rw (← (c .before .before .before .before .before .count .ensures)) (search (first-of, second-of, made) depth 10)
 
--- src/groups.rt:183:8
 has-requires-3 : tie.Need-has-requires-3
 has-requires-3 c κs = search needs
 
--- src/groups.rt:184:9
 whole-requires-3 : tie.Need-whole-requires-3
 whole-requires-3 c κs = search needs
 
--- src/groups.rt:184:9
 returns-3 : tie.Need-returns-3
 unfolding ledCheck
 returns-3 c = rw (← (c .before .before .before .before .before .before .before .count .ensures)) (search (first-of, second-of, made) depth 10)
 
--- src/groups.rt:173:1
 returns-4 : tie.Need-returns-4
 unfolding ledCheck
 returns-4 c = search (first-of, second-of, made) depth 10

@@ -4,19 +4,13 @@ use Rattle.rules.specs.Groups.{ledGroups}
 use borrow.Author.Needs.{needs}
 use Rattle.rules.proofs.groups.led_groups.Statement.{statement}
 use Rattle.rules.proofs.groups.led_groups.Tie as tie
-use Rattle.rules.proofs.groups.led_groups.Reads as reads
-use Rattle.rules.proofs.groups.led_groups.Lts as lts
-use Rattle.rules.proofs.groups.led.Reads as led-reads
 
--- src/groups.rt:193:9
 led-requires : tie.Need-led-requires
 led-requires c κs = search needs
 
--- src/groups.rt:194:26
 enum-known-v : tie.Need-enum-known-v
 enum-known-v c = search needs
 
--- src/groups.rt:195:9
 returns : tie.Need-returns
 unfolding ledGroups
 returns c = search (went, halted) depth 12
@@ -24,15 +18,12 @@ returns c = search (went, halted) depth 12
 enum-told : tie.Need-enum-told
 enum-told c = search needs
 
--- src/groups.rt:197:9
 led-requires-2 : tie.Need-led-requires-2
 led-requires-2 c κs = search needs
 
--- src/groups.rt:198:26
 enum-known-v-2 : tie.Need-enum-known-v-2
 enum-known-v-2 c = search needs
 
--- src/groups.rt:199:9
 returns-2 : tie.Need-returns-2
 unfolding ledGroups
 returns-2 c = search (went, halted) depth 12
@@ -40,15 +31,12 @@ returns-2 c = search (went, halted) depth 12
 enum-told-2 : tie.Need-enum-told-2
 enum-told-2 c = search needs
 
--- src/groups.rt:201:9
 led-requires-3 : tie.Need-led-requires-3
 led-requires-3 c κs = search needs
 
--- src/groups.rt:202:26
 enum-known-v-3 : tie.Need-enum-known-v-3
 enum-known-v-3 c = search needs
 
--- src/groups.rt:203:9
 returns-3 : tie.Need-returns-3
 unfolding ledGroups
 returns-3 c = search (went, halted) depth 12
@@ -56,15 +44,12 @@ returns-3 c = search (went, halted) depth 12
 enum-told-3 : tie.Need-enum-told-3
 enum-told-3 c = search needs
 
--- src/groups.rt:205:9
 led-requires-4 : tie.Need-led-requires-4
 led-requires-4 c κs = search needs
 
--- src/groups.rt:206:26
 enum-known-v-4 : tie.Need-enum-known-v-4
 enum-known-v-4 c = search needs
 
--- src/groups.rt:207:9
 returns-4 : tie.Need-returns-4
 unfolding ledGroups
 returns-4 c = search (went, halted) depth 12
@@ -72,11 +57,9 @@ returns-4 c = search (went, halted) depth 12
 enum-told-4 : tie.Need-enum-told-4
 enum-told-4 c = search needs
 
--- src/groups.rt:209:5
 led-requires-5 : tie.Need-led-requires-5
 led-requires-5 c κs = search needs
 
--- src/groups.rt:190:1
 returns-5 : tie.Need-returns-5
 unfolding ledGroups
 returns-5 c = search (went, halted) depth 12

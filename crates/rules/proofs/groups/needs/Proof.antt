@@ -5,29 +5,21 @@ use Rattle.rules.proofs.TestLaws.{made}
 use borrow.Author.Needs.{needs}
 use Rattle.rules.proofs.groups.needs.Statement.{statement}
 use Rattle.rules.proofs.groups.needs.Tie as tie
-use Rattle.rules.proofs.groups.needs.Reads as reads
-use Rattle.rules.proofs.groups.needs.Lts as lts
-use Rattle.rules.proofs.tags.has.Reads as has-reads
 
--- src/groups.rt:13:9
 has-requires : tie.Need-has-requires
 has-requires c κs = search needs
 
--- src/groups.rt:14:9
 returns : tie.Need-returns
 unfolding needsCheck
 returns c = search (passed, stopped, answers, made) depth 8
 
--- src/groups.rt:16:8
 has-requires-2 : tie.Need-has-requires-2
 has-requires-2 c κs = search needs
 
--- src/groups.rt:17:9
 returns-2 : tie.Need-returns-2
 unfolding needsCheck
 returns-2 c = search (passed, stopped, answers, made) depth 8
 
--- src/groups.rt:10:1
 returns-3 : tie.Need-returns-3
 unfolding needsCheck
 returns-3 c = search (passed, stopped, answers, made) depth 8

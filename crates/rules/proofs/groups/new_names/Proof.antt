@@ -5,57 +5,42 @@ use Rattle.rules.proofs.TestLaws.{same-number, other-number}
 use borrow.Author.Needs.{needs}
 use Rattle.rules.proofs.groups.new_names.Statement.{statement}
 use Rattle.rules.proofs.groups.new_names.Tie as tie
-use Rattle.rules.proofs.groups.new_names.Reads as reads
-use Rattle.rules.proofs.groups.new_names.Lts as lts
-use Rattle.rules.proofs.tags.count.Reads as count-reads
-use Rattle.rules.proofs.tags.has.Reads as has-reads
 
--- src/groups.rt:116:9
 has-requires : tie.Need-has-requires
 has-requires c κs = search needs
 
--- src/groups.rt:117:9
 returns : tie.Need-returns
 unfolding newNamesCheck
 returns c = search (passed, stopped, answers, same-number, other-number) depth 14
 
--- src/groups.rt:119:9
 has-requires-2 : tie.Need-has-requires-2
 has-requires-2 c κs = search needs
 
--- src/groups.rt:120:9
 returns-2 : tie.Need-returns-2
 unfolding newNamesCheck
 returns-2 c = search (passed, stopped, answers, same-number, other-number) depth 14
 
--- src/groups.rt:122:9
 has-requires-3 : tie.Need-has-requires-3
 has-requires-3 c κs = search needs
 
--- src/groups.rt:123:9
 returns-3 : tie.Need-returns-3
 unfolding newNamesCheck
 returns-3 c = search (passed, stopped, answers, same-number, other-number) depth 14
 
--- src/groups.rt:125:8
 count-requires : tie.Need-count-requires
 count-requires c κs = search needs
 
--- src/groups.rt:126:9
 returns-4 : tie.Need-returns-4
 unfolding newNamesCheck
 returns-4 c = search (passed, stopped, answers, same-number, other-number) depth 14
 
--- src/groups.rt:128:8
 count-requires-2 : tie.Need-count-requires-2
 count-requires-2 c κs = search needs
 
--- src/groups.rt:129:9
 returns-5 : tie.Need-returns-5
 unfolding newNamesCheck
 returns-5 c = search (passed, stopped, answers, same-number, other-number) depth 14
 
--- src/groups.rt:113:1
 returns-6 : tie.Need-returns-6
 unfolding newNamesCheck
 returns-6 c = search (passed, stopped, answers, same-number, other-number) depth 14

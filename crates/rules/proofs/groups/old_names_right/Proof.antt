@@ -6,48 +6,35 @@ use Rattle.rules.proofs.TestLaws.{made}
 use borrow.Author.Needs.{needs}
 use Rattle.rules.proofs.groups.old_names_right.Statement.{statement}
 use Rattle.rules.proofs.groups.old_names_right.Tie as tie
-use Rattle.rules.proofs.groups.old_names_right.Reads as reads
-use Rattle.rules.proofs.groups.old_names_right.Lts as lts
-use Rattle.rules.proofs.tags.count.Reads as count-reads
-use Rattle.rules.proofs.tags.has.Reads as has-reads
 
--- src/groups.rt:100:8
 count-requires : tie.Need-count-requires
 count-requires c κs = search needs
 
--- src/groups.rt:101:9
 returns : tie.Need-returns
 unfolding oldNamesRight
 returns c = sym (search (made, answers) depth 10)
 
--- src/groups.rt:103:8
 has-requires : tie.Need-has-requires
 has-requires c κs = search needs
 
--- src/groups.rt:104:9
 returns-2 : tie.Need-returns-2
 unfolding oldNamesRight
 returns-2 c = sym (search (made, answers) depth 10)
 
--- src/groups.rt:106:8
 has-requires-2 : tie.Need-has-requires-2
 has-requires-2 c κs = search needs
 
--- src/groups.rt:107:9
 returns-3 : tie.Need-returns-3
 unfolding oldNamesRight
 returns-3 c = sym (search (made, answers) depth 10)
 
--- src/groups.rt:109:8
 has-requires-3 : tie.Need-has-requires-3
 has-requires-3 c κs = search needs
 
--- src/groups.rt:110:9
 returns-4 : tie.Need-returns-4
 unfolding oldNamesRight
 returns-4 c = sym (search (made, answers) depth 10)
 
--- src/groups.rt:97:1
 returns-5 : tie.Need-returns-5
 unfolding oldNamesRight
 returns-5 c = sym (search (made, answers) depth 10)

@@ -4,19 +4,13 @@ use Rattle.rules.specs.Groups.{scriptPairs}
 use borrow.Author.Needs.{needs}
 use Rattle.rules.proofs.groups.script_pairs.Statement.{statement}
 use Rattle.rules.proofs.groups.script_pairs.Tie as tie
-use Rattle.rules.proofs.groups.script_pairs.Reads as reads
-use Rattle.rules.proofs.groups.script_pairs.Lts as lts
-use Rattle.rules.proofs.groups.needs.Reads as needs-reads
 
--- src/groups.rt:50:9
 needs-requires : tie.Need-needs-requires
 needs-requires c κs = search needs
 
--- src/groups.rt:51:26
 enum-known-v : tie.Need-enum-known-v
 enum-known-v c = search needs
 
--- src/groups.rt:52:9
 returns : tie.Need-returns
 unfolding scriptPairs
 returns c = search (went, halted) depth 12
@@ -24,15 +18,12 @@ returns c = search (went, halted) depth 12
 enum-told : tie.Need-enum-told
 enum-told c = search needs
 
--- src/groups.rt:54:9
 needs-requires-2 : tie.Need-needs-requires-2
 needs-requires-2 c κs = search needs
 
--- src/groups.rt:55:26
 enum-known-v-2 : tie.Need-enum-known-v-2
 enum-known-v-2 c = search needs
 
--- src/groups.rt:56:9
 returns-2 : tie.Need-returns-2
 unfolding scriptPairs
 returns-2 c = search (went, halted) depth 12
@@ -40,15 +31,12 @@ returns-2 c = search (went, halted) depth 12
 enum-told-2 : tie.Need-enum-told-2
 enum-told-2 c = search needs
 
--- src/groups.rt:58:9
 needs-requires-3 : tie.Need-needs-requires-3
 needs-requires-3 c κs = search needs
 
--- src/groups.rt:59:26
 enum-known-v-3 : tie.Need-enum-known-v-3
 enum-known-v-3 c = search needs
 
--- src/groups.rt:60:9
 returns-3 : tie.Need-returns-3
 unfolding scriptPairs
 returns-3 c = search (went, halted) depth 12
@@ -56,11 +44,9 @@ returns-3 c = search (went, halted) depth 12
 enum-told-3 : tie.Need-enum-told-3
 enum-told-3 c = search needs
 
--- src/groups.rt:62:5
 needs-requires-4 : tie.Need-needs-requires-4
 needs-requires-4 c κs = search needs
 
--- src/groups.rt:47:1
 returns-4 : tie.Need-returns-4
 unfolding scriptPairs
 returns-4 c = search (went, halted) depth 12

@@ -4,19 +4,13 @@ use Rattle.rules.specs.Groups.{signaturePairs}
 use borrow.Author.Needs.{needs}
 use Rattle.rules.proofs.groups.signature_pairs.Statement.{statement}
 use Rattle.rules.proofs.groups.signature_pairs.Tie as tie
-use Rattle.rules.proofs.groups.signature_pairs.Reads as reads
-use Rattle.rules.proofs.groups.signature_pairs.Lts as lts
-use Rattle.rules.proofs.groups.needs.Reads as needs-reads
 
--- src/groups.rt:39:9
 needs-requires : tie.Need-needs-requires
 needs-requires c κs = search needs
 
--- src/groups.rt:40:26
 enum-known-v : tie.Need-enum-known-v
 enum-known-v c = search needs
 
--- src/groups.rt:41:9
 returns : tie.Need-returns
 unfolding signaturePairs
 returns c = search (went, halted) depth 12
@@ -24,11 +18,9 @@ returns c = search (went, halted) depth 12
 enum-told : tie.Need-enum-told
 enum-told c = search needs
 
--- src/groups.rt:43:5
 needs-requires-2 : tie.Need-needs-requires-2
 needs-requires-2 c κs = search needs
 
--- src/groups.rt:36:1
 returns-2 : tie.Need-returns-2
 unfolding signaturePairs
 returns-2 c = search (went, halted) depth 12

@@ -5,66 +5,49 @@ use Rattle.rules.proofs.TestLaws.{same-number, other-number}
 use borrow.Author.Needs.{needs}
 use Rattle.rules.proofs.groups.whole.Statement.{statement}
 use Rattle.rules.proofs.groups.whole.Tie as tie
-use Rattle.rules.proofs.groups.whole.Reads as reads
-use Rattle.rules.proofs.groups.whole.Lts as lts
-use Rattle.rules.proofs.tags.count.Reads as count-reads
-use Rattle.rules.proofs.tags.has.Reads as has-reads
 
--- src/groups.rt:151:9
 has-requires : tie.Need-has-requires
 has-requires c κs = search needs
 
--- src/groups.rt:152:9
 returns : tie.Need-returns
 unfolding wholeCheck
 returns c = search (passed, stopped, answers, same-number, other-number) depth 14
 
--- src/groups.rt:154:9
 has-requires-2 : tie.Need-has-requires-2
 has-requires-2 c κs = search needs
 
--- src/groups.rt:155:9
 returns-2 : tie.Need-returns-2
 unfolding wholeCheck
 returns-2 c = search (passed, stopped, answers, same-number, other-number) depth 14
 
--- src/groups.rt:157:9
 has-requires-3 : tie.Need-has-requires-3
 has-requires-3 c κs = search needs
 
--- src/groups.rt:158:9
 returns-3 : tie.Need-returns-3
 unfolding wholeCheck
 returns-3 c = search (passed, stopped, answers, same-number, other-number) depth 14
 
--- src/groups.rt:160:8
 count-requires : tie.Need-count-requires
 count-requires c κs = search needs
 
--- src/groups.rt:161:9
 returns-4 : tie.Need-returns-4
 unfolding wholeCheck
 returns-4 c = search (passed, stopped, answers, same-number, other-number) depth 14
 
--- src/groups.rt:163:8
 count-requires-2 : tie.Need-count-requires-2
 count-requires-2 c κs = search needs
 
--- src/groups.rt:164:9
 returns-5 : tie.Need-returns-5
 unfolding wholeCheck
 returns-5 c = search (passed, stopped, answers, same-number, other-number) depth 14
 
--- src/groups.rt:166:8
 count-requires-3 : tie.Need-count-requires-3
 count-requires-3 c κs = search needs
 
--- src/groups.rt:167:9
 returns-6 : tie.Need-returns-6
 unfolding wholeCheck
 returns-6 c = search (passed, stopped, answers, same-number, other-number) depth 14
 
--- src/groups.rt:148:1
 returns-7 : tie.Need-returns-7
 unfolding wholeCheck
 returns-7 c = search (passed, stopped, answers, same-number, other-number) depth 14

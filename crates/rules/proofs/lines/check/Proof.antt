@@ -4,19 +4,13 @@ use Rattle.rules.specs.Lines.{linesCheck}
 use borrow.Author.Needs.{needs}
 use Rattle.rules.proofs.lines.check.Statement.{statement}
 use Rattle.rules.proofs.lines.check.Tie as tie
-use Rattle.rules.proofs.lines.check.Reads as reads
-use Rattle.rules.proofs.lines.check.Lts as lts
-use Rattle.rules.proofs.lines.lines_from.Reads as lines-from-reads
 
--- src/lines.rt:65:9
 lines-from-requires : tie.Need-lines-from-requires
 lines-from-requires c κs = search needs
 
--- src/lines.rt:66:26
 enum-known-v : tie.Need-enum-known-v
 enum-known-v c = search needs
 
--- src/lines.rt:67:9
 returns : tie.Need-returns
 unfolding linesCheck
 returns c = search (went, halted) depth 12
@@ -24,11 +18,9 @@ returns c = search (went, halted) depth 12
 enum-told : tie.Need-enum-told
 enum-told c = search needs
 
--- src/lines.rt:69:5
 lines-from-requires-2 : tie.Need-lines-from-requires-2
 lines-from-requires-2 c κs = search needs
 
--- src/lines.rt:62:1
 returns-2 : tie.Need-returns-2
 unfolding linesCheck
 returns-2 c = search (went, halted) depth 12

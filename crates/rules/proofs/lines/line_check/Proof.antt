@@ -6,45 +6,31 @@ use Rattle.rules.proofs.TestLaws.{by-case, made}
 use borrow.Author.Needs.{needs}
 use Rattle.rules.proofs.lines.line_check.Statement.{statement}
 use Rattle.rules.proofs.lines.line_check.Tie as tie
-use Rattle.rules.proofs.lines.line_check.Reads as reads
-use Rattle.rules.proofs.lines.line_check.Lts as lts
-use Rattle.catalogue.proofs.Line.allows.Reads as allows-reads
-use Rattle.catalogue.proofs.Line.is_required.Reads as is-required-reads
-use Rattle.structure.proofs.lookup.find_tag.Reads as find-tag-reads
 
--- src/lines.rt:16:9
 find-tag-requires : tie.Need-find-tag-requires
 find-tag-requires c κs = search needs
 
--- src/lines.rt:19:16
 enum-told : tie.Need-enum-told
 enum-told c = search needs
 
--- src/lines.rt:19:16
 is-required-requires : tie.Need-is-required-requires
 is-required-requires c κs = search needs
 
--- src/lines.rt:25:25
 enum-known-found : tie.Need-enum-known-found
 enum-known-found c = search needs
 
--- src/lines.rt:26:16
 allows-requires : tie.Need-allows-requires
 allows-requires c κs = search needs
 
--- src/lines.rt:13:1
 returns : tie.Need-returns
 returns c = by-case (lineCheckAs _) (taggedIn _ _ _) (search) (c .before .before .enum-told .given .1) (search (passed, stopped, answers))
 
--- src/lines.rt:13:1
 returns-2 : tie.Need-returns-2
 returns-2 c = by-case (lineCheckAs _) (taggedIn _ _ _) (search) (c .before .before .enum-told .given .1) (search (passed, stopped, answers))
 
--- src/lines.rt:13:1
 returns-3 : tie.Need-returns-3
 returns-3 c = by-case (lineCheckAs _) (taggedIn _ _ _) (search) (c .before .before .before .found .given .1) (search (passed, stopped, made))
 
--- src/lines.rt:13:1
 returns-4 : tie.Need-returns-4
 returns-4 c = by-case (lineCheckAs _) (taggedIn _ _ _) (search) (c .before .before .before .found .given .1) (search (passed, stopped, made))
 

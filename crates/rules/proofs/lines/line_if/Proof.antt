@@ -3,24 +3,16 @@ use Rattle.rules.proofs.TestLaws.{first-of, second-of, yes, no}
 use borrow.Author.Needs.{needs}
 use Rattle.rules.proofs.lines.line_if.Statement.{statement}
 use Rattle.rules.proofs.lines.line_if.Tie as tie
-use Rattle.rules.proofs.lines.line_if.Reads as reads
-use Rattle.rules.proofs.lines.line_if.Lts as lts
-use Rattle.catalogue.proofs.Line.in_edition.Reads as in-edition-reads
-use Rattle.rules.proofs.lines.line_check.Reads as line-check-reads
 
--- src/lines.rt:39:8
 in-edition-requires : tie.Need-in-edition-requires
 in-edition-requires c κs = search needs
 
--- src/lines.rt:40:9
 line-check-requires : tie.Need-line-check-requires
 line-check-requires c κs = search needs
 
--- src/lines.rt:36:1
 returns : tie.Need-returns
 returns c = search (first-of, second-of, yes, no)
 
--- src/lines.rt:36:1
 returns-2 : tie.Need-returns-2
 returns-2 c = search (first-of, second-of, yes, no)
 

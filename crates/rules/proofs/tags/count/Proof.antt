@@ -6,27 +6,19 @@ use Rattle.rules.proofs.TestLaws.{by-case}
 use borrow.Author.Needs.{needs}
 use Rattle.rules.proofs.tags.count.Statement.{statement}
 use Rattle.rules.proofs.tags.count.Tie as tie
-use Rattle.rules.proofs.tags.count.Reads as reads
-use Rattle.rules.proofs.tags.count.Lts as lts
-use Rattle.structure.proofs.lookup.find_tag.Reads as find-tag-reads
 
--- src/tags.rt:23:9
 find-tag-requires : tie.Need-find-tag-requires
 find-tag-requires c κs = search needs
 
--- src/tags.rt:25:25
 enum-known-found : tie.Need-enum-known-found
 enum-known-found c = search needs
 
--- src/tags.rt:26:27
 enum-told : tie.Need-enum-told
 enum-told c = search needs
 
--- src/tags.rt:20:1
 returns : tie.Need-returns
 returns c = by-case countOf (taggedIn _ _ _) (search) (c .before .found .given .1) refl
 
--- src/tags.rt:20:1
 returns-2 : tie.Need-returns-2
 returns-2 c = by-case countOf (taggedIn _ _ _) (search) (c .enum-told .given .1) refl
 

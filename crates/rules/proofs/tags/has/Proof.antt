@@ -6,27 +6,19 @@ use Rattle.rules.proofs.TestLaws.{by-case}
 use borrow.Author.Needs.{needs}
 use Rattle.rules.proofs.tags.has.Statement.{statement}
 use Rattle.rules.proofs.tags.has.Tie as tie
-use Rattle.rules.proofs.tags.has.Reads as reads
-use Rattle.rules.proofs.tags.has.Lts as lts
-use Rattle.structure.proofs.lookup.find_tag.Reads as find-tag-reads
 
--- src/tags.rt:12:9
 find-tag-requires : tie.Need-find-tag-requires
 find-tag-requires c κs = search needs
 
--- src/tags.rt:14:31
 enum-told : tie.Need-enum-told
 enum-told c = search needs
 
--- src/tags.rt:15:27
 enum-told-2 : tie.Need-enum-told-2
 enum-told-2 c = search needs
 
--- src/tags.rt:9:1
 returns : tie.Need-returns
 returns c = by-case isPresent (taggedIn _ _ _) (search) (c .enum-told .given .1) refl
 
--- src/tags.rt:9:1
 returns-2 : tie.Need-returns-2
 returns-2 c = by-case isPresent (taggedIn _ _ _) (search) (c .enum-told2 .given .1) refl
 

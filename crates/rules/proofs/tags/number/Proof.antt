@@ -8,37 +8,25 @@ use Rattle.rules.proofs.TestLaws.{by-case}
 use borrow.Author.Needs.{needs}
 use Rattle.rules.proofs.tags.number.Statement.{statement}
 use Rattle.rules.proofs.tags.number.Tie as tie
-use Rattle.rules.proofs.tags.number.Reads as reads
-use Rattle.rules.proofs.tags.number.Lts as lts
-use Rattle.be.proofs.be32.Reads as be32-reads
-use Rattle.format.proofs.places.StoreOffset.in_file.Reads as in-file-reads
-use Rattle.structure.proofs.lookup.find_tag.Reads as find-tag-reads
 
--- src/tags.rt:34:9
 find-tag-requires : tie.Need-find-tag-requires
 find-tag-requires c κs = search needs
 
--- src/tags.rt:36:25
 enum-known-found : tie.Need-enum-known-found
 enum-known-found c = search needs
 
--- src/tags.rt:37:17
 in-file-requires : tie.Need-in-file-requires
 in-file-requires c κs = search needs
 
--- src/tags.rt:38:13
 be32-requires : tie.Need-be32-requires
 be32-requires c κs = search needs
 
--- src/tags.rt:40:27
 enum-told : tie.Need-enum-told
 enum-told c = search needs
 
--- src/tags.rt:31:1
 returns : tie.Need-returns
 returns c = by-case (numberAt _ _) (taggedIn _ _ _) (search) (c .before .before .before .found .given .1) (c .be32 .ensures ∙ ap (be32At _) (c .before .in-file .ensures))
 
--- src/tags.rt:31:1
 returns-2 : tie.Need-returns-2
 returns-2 c = by-case (numberAt _ _) (taggedIn _ _ _) (search) (c .enum-told .given .1) refl
 

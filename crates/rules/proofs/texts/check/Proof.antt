@@ -4,76 +4,56 @@ use Rattle.rules.specs.Texts.{textsCheck}
 use borrow.Author.Needs.{needs}
 use Rattle.rules.proofs.texts.check.Statement.{statement}
 use Rattle.rules.proofs.texts.check.Tie as tie
-use Rattle.rules.proofs.texts.check.Reads as reads
-use Rattle.rules.proofs.texts.check.Lts as lts
-use Rattle.rules.proofs.texts.directories_end.Reads as directories-end-reads
-use Rattle.rules.proofs.texts.indexes_below.Reads as indexes-below-reads
-use Rattle.rules.proofs.texts.text_is.Reads as text-is-reads
 
--- src/texts.rt:98:9
 text-is-requires : tie.Need-text-is-requires
 text-is-requires c κs = search needs
 
--- src/texts.rt:99:9
 returns : tie.Need-returns
 unfolding textsCheck
 returns c = search (passed, stopped, answers) depth 16
 
--- src/texts.rt:101:9
 text-is-requires-2 : tie.Need-text-is-requires-2
 text-is-requires-2 c κs = search needs
 
--- src/texts.rt:102:9
 returns-2 : tie.Need-returns-2
 unfolding textsCheck
 returns-2 c = search (passed, stopped, answers) depth 16
 
--- src/texts.rt:104:9
 text-is-requires-3 : tie.Need-text-is-requires-3
 text-is-requires-3 c κs = search needs
 
--- src/texts.rt:105:9
 returns-3 : tie.Need-returns-3
 unfolding textsCheck
 returns-3 c = search (passed, stopped, answers) depth 16
 
--- src/texts.rt:107:9
 text-is-requires-4 : tie.Need-text-is-requires-4
 text-is-requires-4 c κs = search needs
 
--- src/texts.rt:108:9
 returns-4 : tie.Need-returns-4
 unfolding textsCheck
 returns-4 c = search (passed, stopped, answers) depth 16
 
--- src/texts.rt:110:9
 text-is-requires-5 : tie.Need-text-is-requires-5
 text-is-requires-5 c κs = search needs
 
--- src/texts.rt:111:9
 returns-5 : tie.Need-returns-5
 unfolding textsCheck
 returns-5 c = search (passed, stopped, answers) depth 16
 
--- src/texts.rt:113:9
 indexes-below-requires : tie.Need-indexes-below-requires
 indexes-below-requires c κs = search needs
 
--- src/texts.rt:114:9
 returns-6 : tie.Need-returns-6
 unfolding textsCheck
 returns-6 c = search (passed, stopped, answers) depth 16
 
--- src/texts.rt:116:9
 directories-end-requires : tie.Need-directories-end-requires
 directories-end-requires c κs = search needs
 
--- src/texts.rt:117:9
 returns-7 : tie.Need-returns-7
 unfolding textsCheck
 returns-7 c = search (passed, stopped, answers) depth 16
 
--- src/texts.rt:93:1
 returns-8 : tie.Need-returns-8
 unfolding textsCheck
 returns-8 c = search (passed, stopped, answers) depth 16

@@ -8,32 +8,22 @@ use Rattle.rules.proofs.TextsLaws.{extent-le}
 use borrow.Author.Needs.{needs}
 use Rattle.rules.proofs.texts.directories_end.Statement.{statement}
 use Rattle.rules.proofs.texts.directories_end.Tie as tie
-use Rattle.rules.proofs.texts.directories_end.Reads as reads
-use Rattle.rules.proofs.texts.directories_end.Lts as lts
-use Rattle.rules.proofs.texts.slashes_end.Reads as slashes-end-reads
-use Rattle.structure.proofs.lookup.find_entry.Reads as find-entry-reads
 
--- src/texts.rt:85:9
 find-entry-requires : tie.Need-find-entry-requires
 find-entry-requires c κs = search needs
 
--- src/texts.rt:87:19
 enum-known-found : tie.Need-enum-known-found
 enum-known-found c = search needs
 
--- src/texts.rt:87:29
 slashes-end-requires : tie.Need-slashes-end-requires
 slashes-end-requires c κs = omega (arith, extent-le _ _ (taggedIn _ _ _) (c .before .before .before .find-entry .ensures) (c .before .found .given .1))
 
--- src/texts.rt:88:27
 enum-told : tie.Need-enum-told
 enum-told c = search needs
 
--- src/texts.rt:82:1
 returns : tie.Need-returns
 returns c = by-case (foundSlashes _) (entryFor _ _ (taggedIn _ _ _)) (search) (c .before .before .found .given .1) (c .slashes-end .ensures)
 
--- src/texts.rt:82:1
 returns-2 : tie.Need-returns-2
 returns-2 c = by-case (foundSlashes _) (entryFor _ _ (taggedIn _ _ _)) (search) (c .enum-told .given .1) refl
 
