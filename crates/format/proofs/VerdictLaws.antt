@@ -68,3 +68,13 @@ packed-done h = rw h (omega arith)
 
 pub packed-refused : {a : Answer} {number place : ℕ} → a ≡ Refused number place → number * 4294967296 + place ≡ packedOf a
 packed-refused h = rw h
+
+-- a run of checks, part by part: r is what a part found
+pub went : {r v w rest : Verdict} → r ≡ v → r ≡ Pass → w ≡ rest → w ≡ both v rest
+unfolding both
+went p h k = rw (sym p ∙ h) k
+
+pub halted : {r v : Verdict} {number place : ℕ} (rest : Verdict) → r ≡ v → r ≡ Fail number place
+    → Fail number place ≡ both v rest
+unfolding both
+halted rest p h = rw (sym p ∙ h)

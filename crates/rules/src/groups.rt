@@ -106,7 +106,10 @@ fn old_names_right(pkg: &[u8], header: Section, n: u32) -> bool
     if has(pkg, header, 1117) {
         return false;
     }
-    !has(pkg, header, 1118)
+    if has(pkg, header, 1118) {
+        return false;
+    }
+    true
 }
 
 // The new form of the file names is whole.

@@ -6,7 +6,9 @@ use crate::tags::count;
 use format::Section;
 use format::Verdict;
 use structure::Found;
+use structure::Tagged;
 use structure::lookup::find_entry;
+use structure::lookup::find_tag;
 
 // Whether a tag's data is a text, where the tag is present.
 fn text_is(pkg: &[u8], section: Section, text: &[u8], tag: u32) -> bool
@@ -44,10 +46,13 @@ fn indexes_below(pkg: &[u8], header: Section) -> bool
     ensures { λ r. ⌜ r ≡ indexesBelow (now (pkg .entry)) header ⌝ }
 {
     let limit = count(pkg, header, 1118);
-    let found = find_entry(pkg, header, 1116);
+    let found = find_tag(pkg, header, 1116);
     match found {
-        Found::At(entry) => all_below(pkg, limit, entry.count, entry.at.0),
-        Found::Nothing => true,
+        Tagged::Present(e) => {
+            let at = e.offset.in_file(header);
+            all_below(pkg, limit, e.count, at.0)
+        }
+        Tagged::Absent => true,
     }
 }
 

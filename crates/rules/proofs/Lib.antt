@@ -1,0 +1,4 @@
+pub mod TestLaws
+pub mod LinesLaws
+pub mod GroupsLaws
+pub mod TextsLaws
