@@ -17,6 +17,8 @@ impl Dose {
     pub const OXIDE: usize = 1;
 
     pub const MILLIGRAMS: usize = 3;
+    // How many numbers a dose takes in a buffer.
+    pub const NUMBERS: u32 = 2;
 
     // The dose of the weighed record at a place of a book.
     pub fn at(book: &[u8], at: usize) -> Self

@@ -1,7 +1,7 @@
 -- Document 01, "Numbers the station shows": the reading, checks 1 to 24 in order.
 use Prim.Native.Nat.{ℕ, _*_}
 use mathlib.Core.List.{List}
-use mathlib.Core.Bool.{Bool, cond}
+use mathlib.Core.Bool.{cond}
 use lib.ListN.{length}
 use lib.Dec.{eqb, leb}
 use Rattle.format.specs.declared.places.Section.{Section}

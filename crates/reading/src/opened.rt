@@ -7,6 +7,7 @@ ghost use Rattle.reading.specs.Editions.{editionOf};
 ghost use Rattle.reading.specs.Reading.{bookIn, sumCheck, bookPart, openedCheck};
 ghost use Rattle.reading.specs.Weighings.{weighingAs};
 use book::Book;
+use book::Dose;
 use book::Weighed;
 use catalogue::Line;
 use format::Section;
@@ -64,9 +65,9 @@ fn weigh_book(edition: u32, pkg: &[u8], header: Section, room: usize, bytes: &[u
             if let Verdict::Fail(number, place) = v {
                 return Weighing::Refused(number, place);
             }
-            let needed = 2 * count as usize;
-            if room < needed {
-                return Weighing::Refused(24, needed as u32);
+            let needed = Dose::NUMBERS * count;
+            if room < needed as usize {
+                return Weighing::Refused(24, needed);
             }
             Weighing::Doses(count)
         }

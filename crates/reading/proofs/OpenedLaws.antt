@@ -1,0 +1,113 @@
+-- Checks 14 to 24, for each way through the functions that run them.
+use Prim.Native.Nat.{ℕ, _*_, _≤_, _<_}
+use mathlib.Core.Path.{_≡_, sym, ap, _∙_}
+use mathlib.Core.List.{List, []}
+use mathlib.Core.Bool.{Bool, true, false, not}
+use lib.ListN.{length, take, drop}
+use lib.Dec.{leb}
+use mir.Syntax.{w32}
+use mir.Val.{Fits}
+use native.Mathlib.Omega.{arith}
+use borrow.Author.Tests.{eq-eqb, ne-eqb, le-leb, lt-leb, not-true, not-false}
+use Rattle.format.specs.declared.places.Section.{Section}
+use Rattle.format.specs.declared.verdict.Verdict.{Verdict}
+use Rattle.format.specs.declared.verdict.Verdict.the-variants.{Pass, Fail}
+use Rattle.format.specs.Verdicts.{check, both}
+use Rattle.format.proofs.VerdictLaws.{both-pass, both-fail}
+use Rattle.structure.specs.declared.lookup.Entry.{Entry}
+use Rattle.structure.specs.declared.lookup.Found.{Found}
+use Rattle.structure.specs.declared.lookup.Found.the-variants.{At, Nothing}
+use Rattle.catalogue.specs.declared.Line.{Line}
+use Rattle.catalogue.specs.Catalogue.{inEdition, lineAt}
+use Rattle.rules.specs.Tags.{numberIn}
+use Rattle.rules.specs.Texts.{entryIn, foundBytes}
+use Rattle.rules.specs.Rules.{rulesCheck}
+use Rattle.book.specs.declared.Weighed.{Weighed}
+use Rattle.book.specs.declared.Weighed.the-variants as weighed′
+use Rattle.book.specs.Book.{bookTag}
+use Rattle.book.specs.Doses.{doses, weighed}
+use Rattle.book.proofs.PassLaws.{weighed-doses, weighed-unsound, few-doses}
+use Rattle.reading.specs.declared.opened.Weighing.{Weighing}
+use Rattle.reading.specs.declared.opened.Weighing.the-variants.{Doses, Refused}
+use Rattle.reading.specs.Editions.{editionOf, batchTag, batchLine}
+use Rattle.reading.specs.Reading.{bookIn, sumCheck, roomCheck, bookPart, openedCheck}
+use Rattle.reading.specs.Weighings.{weighingAs}
+
+-- the book, by what was found under its tag
+module _ (s : List ℕ) (header : Section) {f : Found} (p : f ≡ entryIn s header bookTag) where
+  pub book-here : {entry : Entry} {l : List ℕ} → f ≡ At entry → l ≡ take (entry .extent) (drop (entry .at .0) s) → l ≡ bookIn s header
+  book-here h k = k ∙ ap (foundBytes s) (sym h ∙ p)
+
+  pub no-book : f ≡ Nothing → [] ≡ bookIn s header
+  no-book h = ap (foundBytes s) (sym h ∙ p)
+
+-- check 23, by whether the edition has the batch weight's line: b is the answer for the line that was read
+module _ (edition : ℕ) (s : List ℕ) (header : Section) (sum : ℕ) {line : Line} (p : line ≡ lineAt batchLine) {b : Bool}
+    (q : b ≡ inEdition edition line) where
+  pub no-batch : not b ≡ true → Pass ≡ sumCheck (editionOf edition) s header sum
+  unfolding sumCheck
+  no-batch h = rw (sym (q ∙ ap (inEdition edition) p) ∙ not-true b h)
+
+  module _ (h : not b ≡ false) {n : ℕ} (k : n ≡ numberIn s header batchTag) where
+    has-batch : inEdition edition (lineAt batchLine) ≡ true
+    has-batch = sym (q ∙ ap (inEdition edition) p) ∙ not-false b h
+
+    pub batch-right : n ≡ sum → Pass ≡ sumCheck (editionOf edition) s header sum
+    unfolding sumCheck check
+    batch-right e = rw (has-batch, eq-eqb (numberIn s header batchTag) sum (sym k ∙ e))
+
+    pub batch-wrong : (n ≡ sum → ⊥) → Fail 23 batchTag ≡ sumCheck (editionOf edition) s header sum
+    unfolding sumCheck check
+    batch-wrong e = rw (has-batch, ne-eqb (numberIn s header batchTag) sum (λ j. e (k ∙ j)))
+
+-- checks 19 to 24, by what weighing the book found
+module _ (edition : ℕ) (s : List ℕ) (header : Section) (room : ℕ) (b : List ℕ) {w : Weighed} (p : w ≡ weighed edition b) where
+  pub book-refused : {number place : ℕ} → w ≡ weighed′.Unsound number place
+      → Refused number place ≡ weighingAs (bookPart (editionOf edition) s header room b) (length (doses b))
+  unfolding bookPart
+  book-refused h = rw (both-fail _ (weighed-unsound edition b p h))
+
+  module _ {count sum : ℕ} (h : w ≡ weighed′.Doses count sum) where
+    pub needed-fits : Fits w32 (2 * count)
+    needed-fits = let k = few-doses edition b p h in record { fits = omega arith }
+
+    -- what is left once the book passed
+    book-left : bookPart (editionOf edition) s header room b
+        ≡ both (sumCheck (editionOf edition) s header sum) (check (leb (2 * count) room) 24 (2 * count) Pass)
+    unfolding bookPart roomCheck
+    book-left =
+        let d = weighed-doses edition b p h in
+        both-pass (d .0) ∙ rw (← d .1, ← d .2)
+
+    module _ {v : Verdict} (q : v ≡ sumCheck (editionOf edition) s header sum) where
+      pub sum-refused : {number place : ℕ} → v ≡ Fail number place
+          → Refused number place ≡ weighingAs (bookPart (editionOf edition) s header room b) (length (doses b))
+      sum-refused k = rw (book-left ∙ both-fail _ (sym q ∙ k))
+
+      pub room-refused : v ≡ Pass → room < 2 * count
+          → Refused 24 (2 * count) ≡ weighingAs (bookPart (editionOf edition) s header room b) (length (doses b))
+      unfolding check
+      room-refused k l =
+          rw (book-left ∙ both-pass {rest = check (leb (2 * count) room) 24 (2 * count) Pass} (sym q ∙ k), lt-leb (2 * count) room l)
+
+      pub doses-accepted : v ≡ Pass → 2 * count ≤ room
+          → Doses count ≡ weighingAs (bookPart (editionOf edition) s header room b) (length (doses b))
+      unfolding check
+      doses-accepted k l =
+          rw (book-left ∙ both-pass {rest = check (leb (2 * count) room) 24 (2 * count) Pass} (sym q ∙ k), le-leb (2 * count) room l)
+          (ap Doses (weighed-doses edition b p h .1))
+
+-- checks 14 to 18 first
+module _ (edition : ℕ) (s : List ℕ) (signature header : Section) (room : ℕ) {v : Verdict}
+    (p : v ≡ rulesCheck (inEdition edition) s (length s) signature header) where
+  pub rules-refused : {number place : ℕ} → v ≡ Fail number place
+      → Refused number place ≡ weighingAs (openedCheck (editionOf edition) s signature header room) (length (doses (bookIn s header)))
+  unfolding openedCheck
+  rules-refused h = rw (both-fail _ (sym p ∙ h))
+
+  pub book-left-over : {r : Weighing} {b : List ℕ} → v ≡ Pass → b ≡ bookIn s header
+      → r ≡ weighingAs (bookPart (editionOf edition) s header room b) (length (doses b))
+      → r ≡ weighingAs (openedCheck (editionOf edition) s signature header room) (length (doses (bookIn s header)))
+  unfolding openedCheck
+  book-left-over h e k =
+      rw (both-pass {rest = bookPart (editionOf edition) s header room (bookIn s header)} (sym p ∙ h)) (rw e at k)

@@ -1,0 +1,42 @@
+-- What was decided gives the answer, and what is written then the buffer. Assumes nothing.
+use Rattle.reading.proofs.DecideLaws as laws
+use borrow.Author.Needs.{needs}
+use Rattle.reading.proofs.read.Statement.{statement}
+use Rattle.reading.proofs.read.Tie as tie
+
+decide-requires : tie.Need-decide-requires
+decide-requires c κs = search needs
+
+enum-known-found : tie.Need-enum-known-found
+enum-known-found c = search needs
+
+enum-known-found-2 : tie.Need-enum-known-found-2
+enum-known-found-2 c = search needs
+
+book-part-requires : tie.Need-book-part-requires
+book-part-requires c κs = search needs
+
+write-requires : tie.Need-write-requires
+write-requires c κs = search needs
+
+returns : tie.Need-returns
+returns c = laws.read-refused _ _ _ (search) (c .before .found .given .1)
+
+same-length : tie.Need-same-length
+same-length c = search needs
+
+returns-2 : tie.Need-returns-2
+returns-2 c = laws.read-accepted _ _ _ (search) (c .before .before .before .before .before .before .found2 .given .1) (c .before .before .before .before .book-part .ensures) (c .before .before .write .ensures)
+
+pub read-spec : {M : Type 1} → statement M
+read-spec =
+    tie.close
+    (tie.spec
+    decide-requires
+    enum-known-found
+    enum-known-found-2
+    book-part-requires
+    write-requires
+    returns
+    same-length
+    returns-2)
