@@ -5,6 +5,7 @@ use mathlib.Core.Bool.{Bool, cond}
 use lib.ListN.{take, drop}
 use lib.Dec.{eqb}
 use Rattle.be.specs.Bytes.{sameBytes}
+use Rattle.format.specs.declared.places.Section.{Section}
 use Rattle.format.specs.declared.verdict.Verdict.{Verdict}
 use Rattle.format.specs.declared.verdict.Verdict.the-variants.{Pass, Fail}
 use Rattle.structure.specs.declared.lookup.Entry.{Entry}
@@ -44,14 +45,16 @@ versionAmong s name (At names) (At versions) =
 versionAmong s name (At names) Nothing = Refused 25 0
 versionAmong s name Nothing versions = Refused 25 0
 
+abbrev pub versionIn : List ℕ → List ℕ → Section → Sought
+versionIn s name header =
+    versionAmong s name (findIn s header requireName stringArray) (findIn s header requireVersion stringArray)
+
 abbrev pub versionAs : Verdict → Sought → Sought
 versionAs Pass version = version
 versionAs (Fail number place) version = Refused number place
 
 unfoldable pub soughtVersion : List ℕ → List ℕ → Sought
-soughtVersion s name =
-    versionAs (soundCheck s)
-    (versionAmong s name (findIn s (headerAt s) requireName stringArray) (findIn s (headerAt s) requireVersion stringArray))
+soughtVersion s name = versionAs (soundCheck s) (versionIn s name (headerAt s))
 
 -- the part of the package that is the version, with its zero byte, or an empty part
 abbrev pub requiredVersion : List ℕ → List ℕ → List ℕ

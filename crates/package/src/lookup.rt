@@ -49,7 +49,10 @@ fn answered(found: Sought) -> Answer
     ensures { λ r. ⌜ r ≡ soughtAnswer found ⌝ }
 {
     match found {
-        Sought::Here(entry) => Answer::Done(entry.at.0 as u32),
+        Sought::Here(entry) => {
+            let place = entry.at.0 as u32;
+            Answer::Done(place)
+        }
         Sought::Refused(number, place) => Answer::Refused(number, place),
     }
 }
@@ -105,12 +108,16 @@ pub(crate) fn element(pkg: &[u8], entry: Entry, k: u32) -> Entry
     let size = structure::types::element_size(entry.ty);
     let at = entry.at;
     match size {
-        ElementSize::Bytes(n) => Entry {
-            ty: entry.ty,
-            count: 1,
-            at: FileOffset(at.0 + n * k as usize),
-            extent: n,
-        },
+        ElementSize::Bytes(n) => {
+            let before = n * k as usize;
+            let from = at.0 + before;
+            Entry {
+                ty: entry.ty,
+                count: 1,
+                at: FileOffset(from),
+                extent: n,
+            }
+        }
         ElementSize::ToZero => {
             let end = at.0 + entry.extent;
             let run = be::strings_end(pkg, at.0, end, k);

@@ -6,9 +6,8 @@ ghost use Rattle.format.specs.declared.verdict.Verdict.the-variants.{Pass};
 ghost use Rattle.structure.specs.Sound.{SoundEntry};
 ghost use Rattle.structure.specs.declared.types.ElementSize.the-variants.{ToZero};
 ghost use Rattle.structure.specs.Types.{elementSize};
-ghost use Rattle.structure.specs.Lookup.{findIn};
 ghost use Rattle.package.specs.Package.{soundCheck, headerAt};
-ghost use Rattle.package.specs.Version.{versionFrom, versionAmong, soughtVersion, requiredVersion, requireName, requireVersion, stringArray};
+ghost use Rattle.package.specs.Version.{versionFrom, versionIn, soughtVersion, requiredVersion};
 use crate::lookup::Sought;
 use crate::lookup::element;
 use crate::lookup::shown;
@@ -34,11 +33,10 @@ fn beside(pkg: &[u8], name: &[u8], names: Entry, versions: Entry) -> Sought
     requires { ⌜ (SoundEntry (now pkg) 65536 names) × (SoundEntry (now pkg) 65536 versions) × (elementSize (names .ty) ≡ ToZero) ⌝ }
     ensures { λ r. ⌜ r ≡ versionFrom (now (pkg .entry)) (now (name .entry)) names versions (names .count) 0 ⌝ }
 {
-    let n = names.count;
-    let end = names.at.0 + names.extent;
     let mut at = names.at.0;
     let mut k = 0;
-    while k < n {
+    while k < names.count {
+        let end = names.at.0 + names.extent;
         let run = be::strings_end(pkg, at, end, 1);
         let extent = structure::lookup::extent_to(at, run);
         let text = be::part(pkg, at, extent - 1);
@@ -54,7 +52,7 @@ fn beside(pkg: &[u8], name: &[u8], names: Entry, versions: Entry) -> Sought
 // The version among a header's entries, where names and versions are string arrays of one count.
 fn among(pkg: &[u8], name: &[u8], header: Section) -> Sought
     requires { ⌜ (soundCheck (now pkg) ≡ Pass) × (header ≡ headerAt (now pkg)) ⌝ }
-    ensures { λ r. ⌜ r ≡ versionAmong (now (pkg .entry)) (now (name .entry)) (findIn (now (pkg .entry)) header requireName stringArray) (findIn (now (pkg .entry)) header requireVersion stringArray) ⌝ }
+    ensures { λ r. ⌜ r ≡ versionIn (now (pkg .entry)) (now (name .entry)) header ⌝ }
 {
     let first = structure::lookup::find(pkg, header, Require::NAME, Require::STRING_ARRAY);
     let Found::At(names) = first else {

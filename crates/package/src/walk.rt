@@ -46,12 +46,12 @@ fn step_in(pkg: &[u8], section: Section, position: u32) -> Step
     if position < section.nindex {
         let place = section.index_record(position);
         let found = IndexRecord::at(pkg, place);
+        let at = place.0 as u32;
+        let next = position + 1;
         return Step {
-            answer: Answer::Done(place.0 as u32),
+            answer: Answer::Done(at),
             found: found,
-            next: Position {
-                number: position + 1,
-            },
+            next: Position { number: next },
         };
     }
     refused(26, 0, position)

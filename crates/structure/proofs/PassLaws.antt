@@ -12,6 +12,7 @@ use Rattle.format.specs.Places.{storePlace, sectionEnd}
 use Rattle.format.specs.Records.{headerRecordAt}
 use Rattle.format.specs.Verdicts.{both}
 use Rattle.format.proofs.VerdictLaws.{inverted, both-inverted, both-pass, both-fail}
+use Rattle.structure.specs.declared.lookup.Found.{Found}
 use Rattle.structure.specs.declared.checks.Checked.{Checked}
 use Rattle.structure.specs.declared.checks.Checked.the-variants.{Sound, Unsound}
 use Rattle.structure.specs.Entries.{recordCheck}
@@ -77,3 +78,14 @@ module _ (s : List ℕ) (len start : ℕ) (h : structureCheck s len start ≡ Pa
   structure-record k l =
       let e : 0 + k ≡ k = omega arith in
       rw e at (each s (sectionAt s start) (sectionAt s start .nindex) 0 (both-inverted _ _ h .1) k l)
+
+-- what a checked structure says of its verdict
+pub checked-sound : (v : Verdict) (section : Section) (found : Found) {section′ : Section} {found′ : Found}
+    → checkedAs v section found ≡ Sound section′ found′ → (v ≡ Pass) × (section ≡ section′) × (found ≡ found′)
+checked-sound Pass section found h = (refl, cc, cc)
+checked-sound (Fail number place) section found h = let z : _≡_ {A = ℕ} 0 1 = cc in absurd (omega arith)
+
+pub checked-unsound : (v : Verdict) (section : Section) (found : Found) {number place : ℕ}
+    → checkedAs v section found ≡ Unsound number place → v ≡ Fail number place
+checked-unsound Pass section found h = let z : _≡_ {A = ℕ} 0 1 = cc in absurd (omega arith)
+checked-unsound (Fail number place) section found h = cc

@@ -3,7 +3,7 @@ use Prim.Native.Nat.{ℕ, zero, suc, _+_, _-_, _*_, _≤_, _<_}
 use mathlib.Core.Path.{_≡_, refl, sym, ap, _∙_}
 use mathlib.Core.Logic.{_⊎_, inl, inr, ⊎-elim}
 use mathlib.Core.List.{List}
-use mathlib.Core.Bool.{Bool, true, false, cond, not, _||_}
+use mathlib.Core.Bool.{Bool, true, false, cond, not, _&&_, _||_}
 use lib.Dec.{eqb, leb}
 use native.Mathlib.Omega.{arith}
 use native.Mathlib.Nat.{mul-le-mul-right}
@@ -141,3 +141,25 @@ found-sound s len start tag ty entry h f =
     let r = found-record s (sectionAt s start) tag ty (sectionAt s start .nindex) 0 entry f in
     rw (r .4) (record-sound s len (sectionAt s start) (r .0) (structure-header s len start h .fits)
     (structure-record s len start h (r .0) (omega arith)))
+
+-- it has the type that was looked for
+pub found-type : (s : List ℕ) (section : Section) (tag ty : ℕ) (entry : Entry) → findIn s section tag ty ≡ At entry → entry .ty ≡ ty
+found-type s section tag ty entry f =
+    let r = found-record s section tag ty (section .nindex) 0 entry f in
+    rw (r .4) (eqb-true _ _ (second (eqb (recordAt s section (r .0) .tag) tag) _ (r .3)))
+  where
+    second : (a b : Bool) → (a && b) ≡ true → b ≡ true
+    second true b h = h
+    second false b h = let z : _≡_ {A = ℕ} 0 1 = cc in absurd (omega arith)
+
+-- sound in a package is sound in a longer one
+pub sound-longer : (s : List ℕ) (len more : ℕ) (entry : Entry) → SoundEntry s len entry → len ≤ more → SoundEntry s more entry
+sound-longer s len more entry h l =
+    record {
+      lawful = h .lawful;
+      some = h .some;
+      bytes = h .bytes;
+      inside = let i = h .inside in omega arith;
+      fixed = h .fixed;
+      strings = h .strings;
+    }

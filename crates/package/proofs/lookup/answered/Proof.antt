@@ -1,3 +1,5 @@
+-- By the case of what was sought. Assumes nothing.
+use Rattle.package.proofs.SeekLaws as laws
 use borrow.Author.Needs.{needs}
 use Rattle.package.proofs.lookup.answered.Statement.{statement}
 use Rattle.package.proofs.lookup.answered.Tie as tie
@@ -8,21 +10,22 @@ use Rattle.package.proofs.lookup.answered.Lts as lts
 enum-known-found : tie.Need-enum-known-found
 enum-known-found c = search needs
 
--- src/lookup.rt:52:45
-cast-t6 : tie.Need-cast-t6
-cast-t6 c = ?
-
 -- src/lookup.rt:53:25
+cast-place : tie.Need-cast-place
+cast-place c = record { fits = c .before .before .before .before .pre _ (c .before .before .found .given .1) }
+
+-- src/lookup.rt:56:25
 enum-known-found-2 : tie.Need-enum-known-found-2
 enum-known-found-2 c = search needs
 
 -- src/lookup.rt:47:1
 returns : tie.Need-returns
-returns c = ?
+returns c = search laws.answer-here
 
 -- src/lookup.rt:47:1
 returns-2 : tie.Need-returns-2
-returns-2 c = ?
+returns-2 c = search laws.answer-refused
 
 pub answered-spec : {M : Type 1} → statement M
-answered-spec = tie.close (tie.spec enum-known-found cast-t6 enum-known-found-2 returns returns-2)
+answered-spec =
+    tie.close (tie.spec enum-known-found cast-place enum-known-found-2 returns returns-2)

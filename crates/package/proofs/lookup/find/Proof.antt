@@ -1,3 +1,6 @@
+-- The bytes of what was sought. Assumes nothing.
+use mathlib.Core.Path.{ap, _∙_}
+use Rattle.package.specs.Lookup.{soughtBytes}
 use borrow.Author.Needs.{needs}
 use Rattle.package.proofs.lookup.find.Statement.{statement}
 use Rattle.package.proofs.lookup.find.Tie as tie
@@ -16,7 +19,7 @@ shown-requires c κs = search needs
 
 -- src/lookup.rt:58:1
 returns : tie.Need-returns
-returns c = ?
+returns c = c .shown .ensures ∙ ap (soughtBytes _) (c .before .seek .ensures)
 
 pub find-spec : {M : Type 1} → statement M
 find-spec = tie.close (tie.spec seek-requires shown-requires returns)

@@ -1,3 +1,5 @@
+-- By the case of the search. Assumes nothing.
+use Rattle.package.proofs.SeekLaws as laws
 use borrow.Author.Needs.{needs}
 use Rattle.package.proofs.lookup.seek.Statement.{statement}
 use Rattle.package.proofs.lookup.seek.Tie as tie
@@ -27,15 +29,15 @@ enum-told c = search needs
 
 -- src/lookup.rt:23:1
 returns : tie.Need-returns
-returns c = ?
+returns c = search laws.seek-refused
 
 -- src/lookup.rt:23:1
 returns-2 : tie.Need-returns-2
-returns-2 c = ?
+returns-2 c = search laws.seek-here
 
 -- src/lookup.rt:23:1
 returns-3 : tie.Need-returns-3
-returns-3 c = ?
+returns-3 c = search laws.seek-nothing
 
 pub seek-spec : {M : Type 1} → statement M
 seek-spec =

@@ -1,3 +1,5 @@
+-- By the case of the look-up. Assumes nothing.
+use Rattle.package.proofs.ElementLaws as laws
 use borrow.Author.Needs.{needs}
 use Rattle.package.proofs.lookup.seek_element.Statement.{statement}
 use Rattle.package.proofs.lookup.seek_element.Tie as tie
@@ -20,19 +22,19 @@ enum-known-found-2 c = search needs
 
 -- src/lookup.rt:137:30
 element-requires : tie.Need-element-requires
-element-requires c κs = ?
+element-requires c κs = search laws.seek-bounded
 
 -- src/lookup.rt:129:1
 returns : tie.Need-returns
-returns c = ?
+returns c = search laws.seek-refused
 
 -- src/lookup.rt:129:1
 returns-2 : tie.Need-returns-2
-returns-2 c = ?
+returns-2 c = search laws.seek-element
 
 -- src/lookup.rt:129:1
 returns-3 : tie.Need-returns-3
-returns-3 c = ?
+returns-3 c = search laws.seek-past
 
 pub seek-element-spec : {M : Type 1} → statement M
 seek-element-spec =

@@ -1,3 +1,5 @@
+-- By the case of what was sought. Assumes nothing.
+use Rattle.package.proofs.SeekLaws as laws
 use borrow.Author.Needs.{needs}
 use Rattle.package.proofs.lookup.shown.Statement.{statement}
 use Rattle.package.proofs.lookup.shown.Tie as tie
@@ -23,11 +25,11 @@ slice-aggregate-result c = search needs
 
 -- src/lookup.rt:37:1
 returns : tie.Need-returns
-returns c = ?
+returns c = search laws.bytes-here
 
 -- src/lookup.rt:37:1
 returns-2 : tie.Need-returns-2
-returns-2 c = search needs
+returns-2 c = search laws.bytes-refused
 
 pub shown-spec : {M : Type 1} → statement M
 shown-spec =

@@ -1,3 +1,9 @@
+-- A rung for each field, in order. Assumes nothing.
+use mathlib.Core.Path.{refl}
+use borrow.Author.Tests.{not-true, not-false}
+use native.Mathlib.Omega.{arith}
+use Rattle.format.proofs.VerdictLaws.{passed, stopped, tests}
+use Rattle.package.specs.Lead.{leadCheck}
 use borrow.Author.Needs.{needs}
 use Rattle.package.proofs.sound.lead_check.Statement.{statement}
 use Rattle.package.proofs.sound.lead_check.Tie as tie
@@ -10,7 +16,8 @@ cast-t3 c = search needs
 
 -- src/sound.rt:45:9
 returns : tie.Need-returns
-returns c = ?
+unfolding leadCheck
+returns c = stopped _ (omega (arith, tests))
 
 -- src/sound.rt:48:33
 cast-t4 : tie.Need-cast-t4
@@ -18,7 +25,9 @@ cast-t4 c = search needs
 
 -- src/sound.rt:48:9
 returns-2 : tie.Need-returns-2
-returns-2 c = ?
+unfolding leadCheck
+returns-2 c = passed _ _ (omega (arith, tests))
+    (stopped _ (omega (arith, tests)))
 
 -- src/sound.rt:51:33
 cast-t5 : tie.Need-cast-t5
@@ -26,7 +35,10 @@ cast-t5 c = search needs
 
 -- src/sound.rt:51:9
 returns-3 : tie.Need-returns-3
-returns-3 c = ?
+unfolding leadCheck
+returns-3 c = passed _ _ (omega (arith, tests))
+    (passed _ _ (omega (arith, tests))
+    (stopped _ (omega (arith, tests))))
 
 -- src/sound.rt:54:33
 cast-t6 : tie.Need-cast-t6
@@ -34,7 +46,11 @@ cast-t6 c = search needs
 
 -- src/sound.rt:54:9
 returns-4 : tie.Need-returns-4
-returns-4 c = ?
+unfolding leadCheck
+returns-4 c = passed _ _ (omega (arith, tests))
+    (passed _ _ (omega (arith, tests))
+    (passed _ _ (omega (arith, tests))
+    (stopped _ (omega (arith, tests)))))
 
 -- src/sound.rt:57:33
 cast-t7 : tie.Need-cast-t7
@@ -42,7 +58,12 @@ cast-t7 c = search needs
 
 -- src/sound.rt:57:9
 returns-5 : tie.Need-returns-5
-returns-5 c = ?
+unfolding leadCheck
+returns-5 c = passed _ _ (omega (arith, tests))
+    (passed _ _ (omega (arith, tests))
+    (passed _ _ (omega (arith, tests))
+    (passed _ _ (omega (arith, tests))
+    (stopped _ (not-true _ (search))))))
 
 -- src/sound.rt:60:33
 cast-t8 : tie.Need-cast-t8
@@ -50,7 +71,13 @@ cast-t8 c = search needs
 
 -- src/sound.rt:60:9
 returns-6 : tie.Need-returns-6
-returns-6 c = ?
+unfolding leadCheck
+returns-6 c = passed _ _ (omega (arith, tests))
+    (passed _ _ (omega (arith, tests))
+    (passed _ _ (omega (arith, tests))
+    (passed _ _ (omega (arith, tests))
+    (passed _ _ (not-false _ (search))
+    (stopped _ (omega (arith, tests)))))))
 
 -- src/sound.rt:63:33
 cast-t9 : tie.Need-cast-t9
@@ -58,11 +85,26 @@ cast-t9 c = search needs
 
 -- src/sound.rt:63:9
 returns-7 : tie.Need-returns-7
-returns-7 c = ?
+unfolding leadCheck
+returns-7 c = passed _ _ (omega (arith, tests))
+    (passed _ _ (omega (arith, tests))
+    (passed _ _ (omega (arith, tests))
+    (passed _ _ (omega (arith, tests))
+    (passed _ _ (not-false _ (search))
+    (passed _ _ (omega (arith, tests))
+    (stopped _ (omega (arith, tests))))))))
 
 -- src/sound.rt:41:1
 returns-8 : tie.Need-returns-8
-returns-8 c = ?
+unfolding leadCheck
+returns-8 c = passed _ _ (omega (arith, tests))
+    (passed _ _ (omega (arith, tests))
+    (passed _ _ (omega (arith, tests))
+    (passed _ _ (omega (arith, tests))
+    (passed _ _ (not-false _ (search))
+    (passed _ _ (omega (arith, tests))
+    (passed _ _ (omega (arith, tests))
+    (refl)))))))
 
 pub lead-check-spec : {M : Type 1} → statement M
 lead-check-spec =

@@ -1,3 +1,5 @@
+-- By the case of the search. Assumes nothing.
+use Rattle.package.proofs.OpenLaws as laws
 use borrow.Author.Needs.{needs}
 use Rattle.package.proofs.sound.open.Statement.{statement}
 use Rattle.package.proofs.sound.open.Tie as tie
@@ -19,11 +21,11 @@ enum-known-found-2 c = search needs
 
 -- src/sound.rt:120:1
 returns : tie.Need-returns
-returns c = ?
+returns c = search laws.open-sound
 
 -- src/sound.rt:120:1
 returns-2 : tie.Need-returns-2
-returns-2 c = ?
+returns-2 c = search laws.open-unsound
 
 pub open-spec : {M : Type 1} → statement M
 open-spec =

@@ -1,3 +1,6 @@
+-- Size, lead, then the structures. Assumes nothing.
+use native.Mathlib.Omega.{arith}
+use Rattle.package.proofs.OpenLaws as laws
 use borrow.Author.Needs.{needs}
 use Rattle.package.proofs.sound.search.Statement.{statement}
 use Rattle.package.proofs.sound.search.Tie as tie
@@ -18,7 +21,7 @@ enum-known-size c = search needs
 
 -- src/sound.rt:109:9
 returns : tie.Need-returns
-returns c = ?
+returns c = search laws.size-refused
 
 enum-told : tie.Need-enum-told
 enum-told c = search needs
@@ -37,22 +40,22 @@ enum-known-v c = search needs
 
 -- src/sound.rt:114:9
 returns-2 : tie.Need-returns-2
-returns-2 c = ?
+returns-2 c = search laws.lead-refused
 
 enum-told-2 : tie.Need-enum-told-2
 enum-told-2 c = search needs
 
 -- src/sound.rt:116:21
 cast-structures : tie.Need-cast-structures
-cast-structures c = ?
+cast-structures c = search laws.size-fits
 
 -- src/sound.rt:116:5
 structures-requires : tie.Need-structures-requires
-structures-requires c κs = ?
+structures-requires c κs = search laws.size-small
 
 -- src/sound.rt:103:1
 returns-3 : tie.Need-returns-3
-returns-3 c = ?
+returns-3 c = search laws.structures-left
 
 pub search-spec : {M : Type 1} → statement M
 search-spec =

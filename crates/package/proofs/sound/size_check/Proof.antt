@@ -1,3 +1,8 @@
+-- A rung for each test, in order. Assumes nothing.
+use mathlib.Core.Path.{refl}
+use native.Mathlib.Omega.{arith}
+use Rattle.format.proofs.VerdictLaws.{passed, stopped, tests}
+use Rattle.package.specs.Package.{sizeCheck}
 use borrow.Author.Needs.{needs}
 use Rattle.package.proofs.sound.size_check.Statement.{statement}
 use Rattle.package.proofs.sound.size_check.Tie as tie
@@ -6,7 +11,8 @@ use Rattle.package.proofs.sound.size_check.Lts as lts
 
 -- src/sound.rt:32:9
 returns : tie.Need-returns
-returns c = ?
+unfolding sizeCheck
+returns c = stopped _ (omega (arith, tests))
 
 -- src/sound.rt:35:33
 cast-t3 : tie.Need-cast-t3
@@ -14,11 +20,13 @@ cast-t3 c = search needs
 
 -- src/sound.rt:35:9
 returns-2 : tie.Need-returns-2
-returns-2 c = ?
+unfolding sizeCheck
+returns-2 c = passed _ _ (omega (arith, tests)) (stopped _ (omega (arith, tests)))
 
 -- src/sound.rt:28:1
 returns-3 : tie.Need-returns-3
-returns-3 c = ?
+unfolding sizeCheck
+returns-3 c = passed _ _ (omega (arith, tests)) (passed _ _ (omega (arith, tests)) refl)
 
 pub size-check-spec : {M : Type 1} → statement M
 size-check-spec = tie.close (tie.spec returns cast-t3 returns-2 returns-3)

@@ -1,3 +1,5 @@
+-- The signature's checks, then the header's, from its own start. Assumes nothing.
+use Rattle.package.proofs.OpenLaws as laws
 use borrow.Author.Needs.{needs}
 use Rattle.package.proofs.sound.structures.Statement.{statement}
 use Rattle.package.proofs.sound.structures.Tie as tie
@@ -24,7 +26,7 @@ enum-known-first-2 c = search needs
 
 -- src/sound.rt:86:17
 header-start-requires : tie.Need-header-start-requires
-header-start-requires c κs = ?
+header-start-requires c κs = search laws.signature-small
 
 -- src/sound.rt:87:17
 check-requires-2 : tie.Need-check-requires-2
@@ -40,19 +42,19 @@ enum-known-second-2 c = search needs
 
 -- src/sound.rt:78:1
 returns : tie.Need-returns
-returns c = ?
+returns c = search laws.first-refused
 
 -- src/sound.rt:78:1
 returns-2 : tie.Need-returns-2
-returns-2 c = ?
+returns-2 c = search laws.second-refused
 
 -- src/sound.rt:78:1
 returns-3 : tie.Need-returns-3
-returns-3 c = ?
+returns-3 c = search laws.in-signature
 
 -- src/sound.rt:78:1
 returns-4 : tie.Need-returns-4
-returns-4 c = ?
+returns-4 c = search laws.in-header
 
 pub structures-spec : {M : Type 1} → statement M
 structures-spec =

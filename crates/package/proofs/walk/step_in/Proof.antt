@@ -1,3 +1,5 @@
+-- By whether the position is below the number of records. Assumes nothing.
+use Rattle.package.proofs.StepLaws as laws
 use borrow.Author.Needs.{needs}
 use Rattle.package.proofs.walk.step_in.Statement.{statement}
 use Rattle.package.proofs.walk.step_in.Tie as tie
@@ -15,17 +17,17 @@ index-record-requires c κs = search needs
 at-requires : tie.Need-at-requires
 at-requires c κs = search needs
 
--- src/walk.rt:50:34
-cast-t7 : tie.Need-cast-t7
-cast-t7 c = search needs
+-- src/walk.rt:49:18
+cast-at : tie.Need-cast-at
+cast-at c = search needs
 
--- src/walk.rt:53:25
-add-t9 : tie.Need-add-t9
-add-t9 c = search needs
+-- src/walk.rt:50:20
+add-next : tie.Need-add-next
+add-next c = search needs
 
--- src/walk.rt:49:9
+-- src/walk.rt:51:9
 returns : tie.Need-returns
-returns c = ?
+returns c = search laws.step-taken
 
 -- src/walk.rt:57:5
 refused-requires : tie.Need-refused-requires
@@ -33,9 +35,16 @@ refused-requires c κs = search needs
 
 -- src/walk.rt:42:1
 returns-2 : tie.Need-returns-2
-returns-2 c = ?
+returns-2 c = search laws.step-past
 
 pub step-in-spec : {M : Type 1} → statement M
 step-in-spec =
     tie.close
-    (tie.spec index-record-requires at-requires cast-t7 add-t9 returns refused-requires returns-2)
+    (tie.spec
+    index-record-requires
+    at-requires
+    cast-at
+    add-next
+    returns
+    refused-requires
+    returns-2)

@@ -1,3 +1,5 @@
+-- By the package as it was opened. Assumes nothing.
+use Rattle.package.proofs.StepLaws as laws
 use borrow.Author.Needs.{needs}
 use Rattle.package.proofs.walk.Position.step.Statement.{statement}
 use Rattle.package.proofs.walk.Position.step.Tie as tie
@@ -25,23 +27,23 @@ enum-known-found-2 c = search needs
 
 -- src/walk.rt:77:21
 step-in-requires : tie.Need-step-in-requires
-step-in-requires c κs = ?
+step-in-requires c κs = search laws.signature-bounded
 
 -- src/walk.rt:79:21
 step-in-requires-2 : tie.Need-step-in-requires-2
-step-in-requires-2 c κs = ?
+step-in-requires-2 c κs = search laws.header-bounded
 
 -- src/walk.rt:69:5
 returns : tie.Need-returns
-returns c = ?
+returns c = search laws.step-refused
 
 -- src/walk.rt:69:5
 returns-2 : tie.Need-returns-2
-returns-2 c = ?
+returns-2 c = search laws.step-signature
 
 -- src/walk.rt:69:5
 returns-3 : tie.Need-returns-3
-returns-3 c = ?
+returns-3 c = search laws.step-header
 
 pub step-spec : {M : Type 1} → statement M
 step-spec =

@@ -1,0 +1,5 @@
+pub mod OpenLaws
+pub mod SeekLaws
+pub mod ElementLaws
+pub mod StepLaws
+pub mod VersionLaws

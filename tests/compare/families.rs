@@ -1,0 +1,352 @@
+//! The cases that are made here, family by family.
+
+use crate::bench::{Answer, Bench, ROOM};
+use crate::damage;
+use crate::maker::{lead, size_of, Entry, Package, Structure, S};
+use crate::questions::*;
+use crate::random::Random;
+use crate::shapes::{shape, Known, Plan, Shape, LAWFUL};
+
+/// All families, in the order in which they run.
+pub const ALL: [fn(&mut Bench, &mut Random); 10] = [
+    right_packages,
+    many_records,
+    sizes,
+    damages,
+    pairs_of_damages,
+    cuts,
+    lost_zero_bytes,
+    extreme_fields,
+    soup,
+    noise,
+];
+
+fn small(random: &mut Random) -> Shape {
+    let plan = Plan::small(random);
+    shape(random, &plan)
+}
+
+fn right_packages(bench: &mut Bench, random: &mut Random) {
+    bench.family("right packages");
+    for _ in 0..600 {
+        let shape = small(random);
+        bench.package(&shape.package.bytes());
+        for entry in &shape.known {
+            ask_entry(bench, random, entry);
+        }
+        ask_tags(bench, random);
+    }
+}
+
+fn many_records(bench: &mut Bench, random: &mut Random) {
+    bench.family("many records");
+    for count in [1, 2, 15, 16, 17, 64, 127, 128, 255, 256, 257, 511, 512] {
+        for records in [[count, 3], [2, count], [count, count]] {
+            let plan = Plan {
+                records,
+                most_elements: 3,
+                payload: random.below(9),
+            };
+            let shape = shape(random, &plan);
+            let bytes = shape.package.bytes();
+            bench.package(&bytes);
+            let last = shape.known.len() - 1;
+            for at in [0, records[0] - 1, records[0], last, random.below(last + 1)] {
+                ask_entry(bench, random, &shape.known[at]);
+            }
+            let damages = damage::all(&shape.package, random);
+            for _ in 0..40 {
+                let damage = &damages[random.below(damages.len())];
+                let mut bytes = bytes.clone();
+                damage.apply(&mut bytes);
+                bench.package(&bytes);
+                bench.note(damage.what);
+                ask_refused(bench, random, &shape, damage.number, damage.place);
+            }
+        }
+    }
+    // One record too many, all else right.
+    for records in [[513, 1], [1, 513], [600, 600]] {
+        let plan = Plan {
+            records,
+            most_elements: 1,
+            payload: 0,
+        };
+        let shape = shape(random, &plan);
+        let wrong = if records[0] > 512 { 0 } else { 1 };
+        let (start, _) = shape.package.structures()[wrong];
+        bench.package(&shape.package.bytes());
+        ask_refused(bench, random, &shape, 7, start + 8);
+    }
+}
+
+/// Packages at and over the largest size, and entries that fill them.
+fn sizes(bench: &mut Bench, random: &mut Random) {
+    bench.family("sizes");
+    let limit = 65_536;
+    for size in [65_535, limit, 65_537, 65_540, 70_000, 131_072, ROOM] {
+        let mut shape = small(random);
+        let rest = size - shape.package.bytes().len();
+        let payload = shape.package.payload.len();
+        shape.package.payload.resize(payload + rest, 7);
+        let mut bytes = shape.package.bytes();
+        bench.package(&bytes);
+        if size <= limit {
+            ask_entry(bench, random, &shape.known[0]);
+        } else {
+            ask_refused(bench, random, &shape, 2, 0);
+            // 2 goes before all others.
+            bytes[0] ^= 1;
+            bench.package(&bytes);
+            ask_refused(bench, random, &shape, 2, 0);
+        }
+    }
+    for ty in LAWFUL {
+        for size in [limit, limit + 1] {
+            let (package, entry) = one_large_entry(ty, size);
+            bench.package(&package);
+            if size == limit {
+                ask_entry(bench, random, &entry);
+            } else {
+                bench.ask_both(question(&entry, 0), Some(Answer::new(2, 0)));
+            }
+        }
+    }
+}
+
+/// A package of exactly `size` bytes, almost all of them one header entry.
+fn one_large_entry(ty: u32, size: usize) -> (Vec<u8>, Known) {
+    let tag = 20_001;
+    let signature = Structure::of(&[Entry::new(1000, 4, &[&[0; 4]])]);
+    let mut package = Package::of(signature, Structure::default());
+    let place = package.h() + 32;
+    let room = size - place;
+    let each = match (ty, size_of(ty)) {
+        (_, Some(each)) => each,
+        (8, None) => 3,
+        (_, None) => room,
+    };
+    let mut element = vec![b'x'; each];
+    if size_of(ty).is_none() {
+        element[each - 1] = 0;
+    }
+    let elements = vec![element; room / each];
+    package.header.put(&Entry { tag, ty, elements }, 0);
+    let mut bytes = package.bytes();
+    bytes.resize(size, 1);
+    let known = Known {
+        structure: 1,
+        tag,
+        ty,
+        elements: (0..room / each).map(|n| place + n * each).collect(),
+    };
+    (bytes, known)
+}
+
+/// Each damage of each check, one at a time.
+fn damages(bench: &mut Bench, random: &mut Random) {
+    bench.family("one damage");
+    for _ in 0..100 {
+        let shape = small(random);
+        let right = shape.package.bytes();
+        for damage in damage::all(&shape.package, random) {
+            let mut bytes = right.clone();
+            damage.apply(&mut bytes);
+            bench.package(&bytes);
+            bench.note(damage.what);
+            ask_refused(bench, random, &shape, damage.number, damage.place);
+        }
+    }
+}
+
+/// Two damages: the first check that fails decides.
+fn pairs_of_damages(bench: &mut Bench, random: &mut Random) {
+    bench.family("two damages");
+    for _ in 0..100 {
+        let shape = small(random);
+        let right = shape.package.bytes();
+        let damages = damage::all(&shape.package, random);
+        for _ in 0..200 {
+            let one = &damages[random.below(damages.len())];
+            let other = &damages[random.below(damages.len())];
+            let Some((number, place)) = one.first_of(other) else {
+                continue;
+            };
+            let mut bytes = right.clone();
+            one.apply(&mut bytes);
+            other.apply(&mut bytes);
+            bench.package(&bytes);
+            ask_refused(bench, random, &shape, number, place);
+        }
+    }
+}
+
+/// Small packages cut at every length, large ones around their boundaries.
+fn cuts(bench: &mut Bench, random: &mut Random) {
+    bench.family("cuts");
+    for round in 0..24 {
+        let shape = if round < 20 {
+            small(random)
+        } else {
+            let plan = Plan {
+                records: [40, 200],
+                most_elements: 9,
+                payload: 100,
+            };
+            shape(random, &plan)
+        };
+        let right = shape.package.bytes();
+        let lengths: Vec<usize> = if round < 20 {
+            (0..=right.len()).collect()
+        } else {
+            let around = |at: usize| [at.saturating_sub(1), at, (at + 1).min(right.len())];
+            let boundaries = damage::boundaries(&shape.package);
+            boundaries.into_iter().flat_map(around).collect()
+        };
+        for length in lengths {
+            bench.package(&right[..length]);
+            match damage::cut(&shape.package, length) {
+                Some((number, place)) => ask_refused(bench, random, &shape, number, place),
+                None => ask_some(bench, random, &shape),
+            }
+        }
+    }
+}
+
+/// Each zero byte of a store lost, then all of the store's last ones.
+fn lost_zero_bytes(bench: &mut Bench, random: &mut Random) {
+    bench.family("lost zero bytes");
+    for _ in 0..100 {
+        let shape = small(random);
+        let right = shape.package.bytes();
+        for (start, structure) in shape.package.structures() {
+            let end = start + structure.size();
+            for at in end - structure.store.len()..end {
+                if right[at] != 0 {
+                    continue;
+                }
+                let mut bytes = right.clone();
+                bytes[at] = b'x';
+                bench.package(&bytes);
+                ask_some(bench, random, &shape);
+                bytes[at..end].fill(b'x');
+                bench.package(&bytes);
+                ask_some(bench, random, &shape);
+            }
+        }
+    }
+}
+
+/// Extreme numbers in every field of header and index records, one or two at a time.
+fn extreme_fields(bench: &mut Bench, random: &mut Random) {
+    bench.family("extreme fields");
+    for _ in 0..30 {
+        let shape = small(random);
+        let right = shape.package.bytes();
+        for (number, (start, structure)) in shape.package.structures().into_iter().enumerate() {
+            let size = structure.store.len() as u32;
+            let near = [size - 1, size, size + 1, size / 4, size / 4 + 1];
+            let fields = start + 8..start + 16 + 16 * structure.records.len();
+            for field in fields.clone().step_by(4) {
+                for value in EXTREMES.into_iter().chain(near) {
+                    let mut bytes = right.clone();
+                    bytes[field..field + 4].copy_from_slice(&value.to_be_bytes());
+                    if random.one_in(4) {
+                        let other = fields.start + 4 * random.below(fields.len() / 4);
+                        let value = random.pick(&EXTREMES);
+                        bytes[other..other + 4].copy_from_slice(&value.to_be_bytes());
+                    }
+                    bench.package(&bytes);
+                    if field < start + 16 {
+                        ask_some(bench, random, &shape);
+                    } else {
+                        let record = field - (field - start) % 16;
+                        ask_record(bench, random, &bytes, number as u32, record);
+                    }
+                }
+            }
+        }
+    }
+}
+
+/// Small structures of random records over few bytes: often right, wrong in any way.
+fn soup(bench: &mut Bench, random: &mut Random) {
+    bench.family("random records");
+    for _ in 0..30_000 {
+        let signature = match random.below(3) {
+            0 => random_structure(random),
+            _ => Structure::of(&[Entry::new(1000, 4, &[&[0; 4]])]),
+        };
+        let package = Package::of(signature, random_structure(random));
+        let bytes = package.bytes();
+        bench.package(&bytes);
+        for (number, (start, structure)) in package.structures().into_iter().enumerate() {
+            let record = start + 16 + 16 * random.below(structure.records.len());
+            ask_record(bench, random, &bytes, number as u32, record);
+        }
+    }
+}
+
+fn random_structure(random: &mut Random) -> Structure {
+    let size = random.below(20);
+    let store = (0..size).map(|_| random.pick(&[0, 0, b'a'])).collect();
+    let record = |random: &mut Random| {
+        let ty = match random.below(20) {
+            0 => random.below(12) as u32,
+            _ => random.pick(&LAWFUL),
+        };
+        let count = match ty {
+            6 | 9 => 1,
+            _ => 1 + random.below(3) as u32,
+        };
+        let align = size_of(ty).unwrap_or(1);
+        let mut offset = random.below(size + 1) / align * align;
+        if random.one_in(20) {
+            offset += 1;
+        }
+        let count = count - u32::from(random.one_in(30));
+        [random.below(9) as u32, ty, offset as u32, count]
+    };
+    let records = (0..1 + random.below(4)).map(|_| record(random)).collect();
+    Structure { records, store }
+}
+
+/// Random bytes, alone or behind a right beginning; right packages with some bytes changed.
+fn noise(bench: &mut Bench, random: &mut Random) {
+    bench.family("random bytes");
+    for round in 0..20_000 {
+        let length = random.below(400);
+        let shape = small(random);
+        let mut bytes = shape.package.bytes();
+        match round % 5 {
+            0 => bytes = random.bytes(length),
+            1 => {
+                bytes = lead().to_vec();
+                bytes.extend(random.bytes(length));
+            }
+            2 => {
+                bytes.truncate(S + 16 + random.below(40));
+                bytes.extend(random.bytes(length));
+            }
+            3 => change(random, &mut bytes),
+            _ => {
+                // Some bytes lost: all behind them shifts.
+                let at = random.below(bytes.len());
+                let part = bytes.split_off(at);
+                let skip = random.below(part.len().min(20) + 1);
+                bytes.extend(&part[skip..]);
+            }
+        }
+        bench.package(&bytes);
+        ask_some(bench, random, &shape);
+    }
+}
+
+/// Changes one to four bytes.
+pub fn change(random: &mut Random, bytes: &mut [u8]) {
+    for _ in 0..1 + random.below(4) {
+        let at = random.below(bytes.len());
+        let values = [0, 1, 0xFF, bytes[at] ^ 1, random.byte()];
+        bytes[at] = random.pick(&values);
+    }
+}

@@ -1,0 +1,70 @@
+//! Compares the C calls of libstation.a with the reference, on packages made
+//! here (always the same ones) and on those in tests/data.
+//!
+//!     compare DATA-FOLDER REPORT-FILE
+//!     compare ask PACKAGE STRUCTURE TAG TYPE [ELEMENT]
+
+mod bench;
+mod damage;
+mod families;
+mod maker;
+mod questions;
+mod random;
+mod real;
+mod shapes;
+
+use std::path::{Path, PathBuf};
+use std::time::Instant;
+
+use bench::{show, Bench, Question};
+use random::Random;
+
+/// Every answer that the look-ups have.
+const NUMBERS: [u32; 15] = [0, 2, 3, 4, 5, 6, 7, 8, 9, 10, 11, 12, 13, 25, 26];
+const LEAST_COMPARISONS: usize = 100_000;
+
+fn main() {
+    let words: Vec<String> = std::env::args().skip(1).collect();
+    match &words[..] {
+        [ask, package, numbers @ ..] if ask == "ask" => one(package, numbers),
+        [data, report] => all(Path::new(data), PathBuf::from(report)),
+        _ => panic!("compare DATA-FOLDER REPORT-FILE"),
+    }
+}
+
+fn one(package: &str, numbers: &[String]) {
+    let numbers: Vec<u32> = numbers.iter().map(|word| word.parse().unwrap()).collect();
+    let question = Question {
+        structure: numbers[0],
+        tag: numbers[1],
+        ty: numbers[2],
+        element: numbers.get(3).copied(),
+    };
+    show(&std::fs::read(package).unwrap(), question);
+}
+
+fn all(data: &Path, report: PathBuf) {
+    let begun = Instant::now();
+    let mut bench = Bench::new(report);
+    let lines = real::as_rpm_reads(&mut bench, data);
+    for (seed, family) in families::ALL.iter().enumerate() {
+        family(&mut bench, &mut Random::new(seed as u64));
+    }
+    real::asked_and_damaged(&mut bench, &mut Random::new(99), data);
+
+    let seconds = begun.elapsed().as_secs_f64();
+    println!(
+        "compare: {} answers on {} packages agree, {lines} of them with rpm ({seconds:.1} s)",
+        bench.comparisons, bench.packages
+    );
+    let counts: Vec<String> = NUMBERS
+        .iter()
+        .map(|number| format!("{number}: {}", bench.numbers.get(number).unwrap_or(&0)))
+        .collect();
+    println!("compare: answers by number: {}", counts.join(", "));
+    let missing = NUMBERS
+        .iter()
+        .find(|number| !bench.numbers.contains_key(number));
+    assert!(missing.is_none(), "no case gave the number {missing:?}");
+    assert!(bench.comparisons >= LEAST_COMPARISONS, "too few cases");
+}

@@ -1,0 +1,123 @@
+//! Makes packages from lists of entries.
+
+/// The size of a type's elements; `None` for strings.
+pub fn size_of(ty: u32) -> Option<usize> {
+    match ty {
+        3 => Some(2),
+        4 => Some(4),
+        6 | 8 | 9 => None,
+        _ => Some(1),
+    }
+}
+
+/// An entry to put into a structure. Strings carry their zero byte.
+#[derive(Clone, Debug)]
+pub struct Entry {
+    pub tag: u32,
+    pub ty: u32,
+    pub elements: Vec<Vec<u8>>,
+}
+
+impl Entry {
+    pub fn new(tag: u32, ty: u32, elements: &[&[u8]]) -> Entry {
+        let elements = elements.iter().map(|element| element.to_vec()).collect();
+        Entry { tag, ty, elements }
+    }
+}
+
+/// A structure's index records and store.
+#[derive(Clone, Debug, Default)]
+pub struct Structure {
+    pub records: Vec<[u32; 4]>,
+    pub store: Vec<u8>,
+}
+
+impl Structure {
+    /// Data packed in list order, with zero bytes for alignment.
+    pub fn of(entries: &[Entry]) -> Structure {
+        let mut structure = Structure::default();
+        for entry in entries {
+            structure.put(entry, 0);
+        }
+        structure
+    }
+
+    /// Adds an entry at the store's end; `filler` fills up to its alignment.
+    pub fn put(&mut self, entry: &Entry, filler: u8) {
+        let align = size_of(entry.ty).unwrap_or(1);
+        let offset = self.store.len().next_multiple_of(align);
+        self.store.resize(offset, filler);
+        self.store.extend(entry.elements.concat());
+        let count = entry.elements.len() as u32;
+        self.records
+            .push([entry.tag, entry.ty, offset as u32, count]);
+    }
+
+    pub fn size(&self) -> usize {
+        16 + 16 * self.records.len() + self.store.len()
+    }
+
+    fn write(&self, out: &mut Vec<u8>) {
+        out.extend([0x8E, 0xAD, 0xE8, 0x01, 0, 0, 0, 0]);
+        out.extend((self.records.len() as u32).to_be_bytes());
+        out.extend((self.store.len() as u32).to_be_bytes());
+        for number in self.records.iter().flatten() {
+            out.extend(number.to_be_bytes());
+        }
+        out.extend(&self.store);
+    }
+}
+
+#[derive(Clone, Debug)]
+pub struct Package {
+    pub lead: [u8; 96],
+    pub signature: Structure,
+    /// What stands between the signature and the header.
+    pub gap: u8,
+    pub header: Structure,
+    pub payload: Vec<u8>,
+}
+
+/// Where the signature starts.
+pub const S: usize = 96;
+
+/// A lead with a short name; its free bytes are zero.
+pub fn lead() -> [u8; 96] {
+    let mut lead = [0; 96];
+    lead[0..5].copy_from_slice(&[0xED, 0xAB, 0xEE, 0xDB, 3]);
+    lead[10..14].copy_from_slice(b"book");
+    lead[77] = 1;
+    lead[79] = 5;
+    lead
+}
+
+impl Package {
+    pub fn of(signature: Structure, header: Structure) -> Package {
+        Package {
+            lead: lead(),
+            signature,
+            gap: 0,
+            header,
+            payload: Vec::new(),
+        }
+    }
+
+    /// H, where the header starts.
+    pub fn h(&self) -> usize {
+        (S + self.signature.size()).next_multiple_of(8)
+    }
+
+    /// Both structures, each with its start.
+    pub fn structures(&self) -> [(usize, &Structure); 2] {
+        [(S, &self.signature), (self.h(), &self.header)]
+    }
+
+    pub fn bytes(&self) -> Vec<u8> {
+        let mut out = self.lead.to_vec();
+        self.signature.write(&mut out);
+        out.resize(self.h(), self.gap);
+        self.header.write(&mut out);
+        out.extend(&self.payload);
+        out
+    }
+}

@@ -1,0 +1,123 @@
+//! The packages in tests/data, which other writers made.
+
+use std::path::{Path, PathBuf};
+
+use crate::bench::{Answer, Bench, Question};
+use crate::families::change;
+use crate::maker::S;
+use crate::questions::ask_record;
+use crate::random::Random;
+
+/// A line of expected.txt: FILE STRUCTURE TAG TYPE ELEMENT HEX, with "-" as
+/// element for a whole entry.
+struct Line {
+    file: String,
+    question: Question,
+    bytes: Vec<u8>,
+}
+
+impl Line {
+    fn parse(line: &str) -> Option<Line> {
+        let words: Vec<&str> = line.split(' ').collect();
+        let [file, structure, tag, ty, element, hex] = words[..] else {
+            return None;
+        };
+        let element = match element {
+            "-" => None,
+            number => Some(number.parse().ok()?),
+        };
+        Some(Line {
+            file: file.to_string(),
+            question: Question {
+                structure: structure.parse().ok()?,
+                tag: tag.parse().ok()?,
+                ty: ty.parse().ok()?,
+                element,
+            },
+            bytes: unhex(hex)?,
+        })
+    }
+}
+
+fn unhex(hex: &str) -> Option<Vec<u8>> {
+    (0..hex.len())
+        .step_by(2)
+        .map(|at| u8::from_str_radix(hex.get(at..at + 2)?, 16).ok())
+        .collect()
+}
+
+/// The library must show the very bytes that rpm reads (expected.txt).
+pub fn as_rpm_reads(bench: &mut Bench, data: &Path) -> usize {
+    let text = std::fs::read_to_string(data.join("expected.txt")).expect("expected.txt");
+    let mut package = Vec::new();
+    let mut open = String::new();
+    let mut lines = 0;
+    bench.family("what rpm reads");
+    for line in text.lines().filter(|line| !line.starts_with('#')) {
+        let Line {
+            file,
+            question,
+            bytes,
+        } = Line::parse(line).unwrap_or_else(|| panic!("expected.txt: {line}"));
+        if file != open {
+            package = std::fs::read(data.join(&file)).expect("package in tests/data");
+            bench.package(&package);
+            open = file;
+        }
+        let Question {
+            structure, tag, ty, ..
+        } = question;
+        let part = match question.element {
+            None => reference::find(&package, structure, tag, ty),
+            Some(n) => reference::find_element(&package, structure, tag, ty, n),
+        };
+        let part = part.unwrap_or_else(|refusal| panic!("{line}: {refusal:?}"));
+        assert!(
+            package[part.clone()] == bytes,
+            "other bytes than rpm: {line}"
+        );
+        bench.ask(question, Some(Answer::new(0, part.start)));
+        lines += 1;
+    }
+    lines
+}
+
+/// Every record, then the packages with bytes changed and cut off.
+pub fn asked_and_damaged(bench: &mut Bench, random: &mut Random, data: &Path) {
+    bench.family("packages of other writers");
+    let entries = std::fs::read_dir(data).expect("tests/data");
+    let mut files: Vec<PathBuf> = entries.map(|entry| entry.unwrap().path()).collect();
+    files.retain(|file| file.extension().is_some_and(|end| end == "rpm"));
+    files.sort();
+    assert!(!files.is_empty(), "no package in tests/data");
+    for file in files {
+        let right = std::fs::read(file).unwrap();
+        let records = records(&right);
+        bench.package(&right);
+        for &(structure, record) in &records {
+            ask_record(bench, random, &right, structure, record);
+        }
+        for round in 0..600 {
+            let mut bytes = right.clone();
+            if round % 3 == 0 {
+                bytes.truncate(random.below(right.len()));
+            } else {
+                change(random, &mut bytes[..right.len() * 3 / 4]);
+            }
+            bench.package(&bytes);
+            let (structure, record) = random.pick(&records);
+            ask_record(bench, random, &right, structure, record);
+        }
+    }
+}
+
+/// Structure and file offset of every index record, right or wrong.
+fn records(bytes: &[u8]) -> Vec<(u32, usize)> {
+    let number = |at: usize| u32::from_be_bytes(bytes[at..at + 4].try_into().unwrap()) as usize;
+    let end = S + 16 + 16 * number(S + 8) + number(S + 12);
+    let mut places = Vec::new();
+    for (structure, start) in [(0, S), (1, end.next_multiple_of(8))] {
+        places.extend((0..number(start + 8)).map(|n| (structure, start + 16 + 16 * n)));
+    }
+    places
+}

@@ -1,0 +1,296 @@
+//! Document 01's bench samples and slips that belong to packages and look-ups.
+
+#[path = "../compare/maker.rs"]
+#[allow(dead_code)]
+mod maker;
+
+use super::*;
+use maker::{Entry, Package, S};
+
+fn structure(records: &[[u32; 4]], store: &[u8]) -> maker::Structure {
+    maker::Structure {
+        records: records.to_vec(),
+        store: store.to_vec(),
+    }
+}
+
+/// A right structure: one int32.
+fn plain() -> maker::Structure {
+    structure(&[[1000, 4, 0, 1]], &[0, 0, 4, 226])
+}
+
+/// A package with a plain signature and this header.
+fn with_header(header: maker::Structure) -> Vec<u8> {
+    Package::of(plain(), header).bytes()
+}
+
+/// H of such a package.
+const H: usize = 136;
+
+fn refused<T>(number: u32, place: usize) -> Checked<T> {
+    let place = place as u32;
+    Err(Refusal { number, place })
+}
+
+fn refusal(package: &[u8]) -> Checked<()> {
+    sound(package).map(|_| ())
+}
+
+fn put(package: &mut [u8], at: usize, number: u32) {
+    package[at..at + 4].copy_from_slice(&number.to_be_bytes());
+}
+
+#[test]
+fn store_of_8() {
+    let check = |record: [u32; 4], store: &[u8; 8]| {
+        let header = structure(&[record], store);
+        refusal(&with_header(header)).map_err(|refusal| {
+            assert_eq!(refusal.place as usize, H + 16);
+            refusal.number
+        })
+    };
+    let zeros = &[0; 8];
+    let ended = b"1234567\0";
+    let not_ended = b"12345678";
+    assert_eq!(check([1, 4, 4, 1], zeros), Ok(()));
+    assert_eq!(check([1, 4, 4, 2], zeros), Err(12));
+    assert_eq!(check([1, 4, 2, 1], zeros), Err(11));
+    assert_eq!(check([1, 6, 7, 1], ended), Ok(()));
+    assert_eq!(check([1, 6, 7, 1], not_ended), Err(12));
+    assert_eq!(check([1, 7, 8, 1], zeros), Err(12));
+}
+
+/// Lead and signature as document 002 prints them.
+fn document_002() -> Vec<u8> {
+    let mut package = vec![0; 336];
+    package[..32].copy_from_slice(
+        b"\xed\xab\xee\xdb\x03\x00\x00\x00\x00\x01rpm-2.2.1-1\0\0\0\0\0\0\0\0\0\0\0",
+    );
+    package[64..96].copy_from_slice(
+        b"\0\0\0\0\0\0\0\0\0\0\0\0\x00\x01\x00\x05\
+          \x04\x00\x00\x00\x24\xe1\xff\xbf\x6b\xb3\x00\x08\x00\xe6\xff\xbf",
+    );
+    let words = [
+        0x8eade801, 0, 3, 0xac, 1000, 4, 0, 1, 1001, 7, 4, 16, 1002, 7, 20, 152, 0x00044c4f,
+    ];
+    for (position, word) in words.into_iter().enumerate() {
+        put(&mut package, 96 + 4 * position, word);
+    }
+    package[0xa4..0x14c].fill(0x55);
+    package
+}
+
+#[test]
+fn signature_of_document_002() {
+    let mut package = document_002();
+    assert_eq!(refusal(&package), refused(5, 336));
+    package.extend(&with_header(plain())[H..]);
+    let opened = sound(&package).unwrap();
+    assert_eq!(opened.signature.end(), 332);
+    assert_eq!(opened.header_start, 336);
+    assert_eq!(opened.payload, package.len());
+    assert_eq!(find(&package, 0, 1000, 4), Ok(0xa0..0xa4));
+    assert_eq!(find(&package, 0, 1001, 7), Ok(0xa4..0xb4));
+    assert_eq!(find(&package, 0, 1002, 7), Ok(0xb4..0x14c));
+}
+
+#[test]
+fn lengths() {
+    let package = with_header(plain());
+    assert_eq!(refusal(&[]), refused(3, 0));
+    assert_eq!(refusal(&package[..95]), refused(3, 95));
+    assert_eq!(refusal(&package[..96]), refused(5, 96));
+    assert_eq!(refusal(&package[..111]), refused(5, 96));
+    assert_eq!(refusal(&package[..112]), refused(8, 108));
+    assert_eq!(refusal(&package[..132]), refused(5, H));
+    assert_eq!(refusal(&package[..H + 15]), refused(5, H));
+    assert_eq!(refusal(&package[..H + 16]), refused(8, H + 12));
+    assert_eq!(refusal(&package[..package.len() - 1]), refused(8, H + 12));
+
+    let mut large = package;
+    large.resize(65_536, 9);
+    assert_eq!(refusal(&large), Ok(()));
+    large.push(9);
+    assert_eq!(refusal(&large), refused(2, 0));
+}
+
+#[test]
+fn each_lead_field() {
+    let right = with_header(plain());
+    for (place, length) in [(0, 4), (4, 1), (5, 1), (6, 2), (76, 2), (78, 2)] {
+        for at in place..place + length {
+            let mut package = right.clone();
+            package[at] ^= 0x40;
+            assert_eq!(refusal(&package), refused(4, place));
+        }
+    }
+    let mut package = right.clone();
+    package[10..76].fill(b'n');
+    assert_eq!(refusal(&package), refused(4, 10));
+    // The last byte may be its only zero; what stands behind a zero is free.
+    package[75] = 0;
+    assert_eq!(refusal(&package), Ok(()));
+    package[10] = 0;
+    assert_eq!(refusal(&package), Ok(()));
+    package[8..10].fill(0xFF);
+    package[80..96].fill(0xFF);
+    assert_eq!(refusal(&package), Ok(()));
+    // Two wrong fields: the first.
+    package[78] = 1;
+    package[4] = 4;
+    assert_eq!(refusal(&package), refused(4, 4));
+}
+
+#[test]
+fn header_record_fields() {
+    let right = with_header(plain());
+    for start in [S, H] {
+        for at in 0..8 {
+            let mut package = right.clone();
+            package[start + at] ^= 1;
+            assert_eq!(refusal(&package), refused(6, start + at / 4 * 4));
+        }
+        for nindex in [0, 513, 1 << 28, 1 << 31, u32::MAX] {
+            let mut package = right.clone();
+            put(&mut package, start + 8, nindex);
+            assert_eq!(refusal(&package), refused(7, start + 8));
+        }
+        for hsize in [1000, 1 << 31, u32::MAX - 31, u32::MAX] {
+            let mut package = right.clone();
+            put(&mut package, start + 12, hsize);
+            assert_eq!(refusal(&package), refused(8, start + 12));
+        }
+    }
+}
+
+#[test]
+fn nindex_512_and_513() {
+    let chars = |count: u32| {
+        let records: Vec<[u32; 4]> = (0..count).map(|tag| [tag, 1, 0, 1]).collect();
+        structure(&records, b"x")
+    };
+    assert_eq!(refusal(&with_header(chars(512))), Ok(()));
+    assert_eq!(refusal(&with_header(chars(513))), refused(7, H + 8));
+    let signature = |count| Package::of(chars(count), plain()).bytes();
+    assert_eq!(refusal(&signature(512)), Ok(()));
+    assert_eq!(refusal(&signature(513)), refused(7, S + 8));
+}
+
+#[test]
+fn index_records() {
+    let check = |record: [u32; 4]| {
+        // Three strings, one of them empty; a second record after the first.
+        let header = structure(&[[1, 1, 0, 1], record], b"ab\0\0cdef\0...");
+        refusal(&with_header(header)).map_err(|refusal| {
+            assert_eq!(refusal.place as usize, H + 32);
+            refusal.number
+        })
+    };
+    for ty in [0, 5, 10, 11, 257, u32::MAX] {
+        assert_eq!(check([2, ty, 1, 0]), Err(9));
+    }
+    for ty in [1, 2, 3, 4, 6, 7, 8, 9] {
+        assert_eq!(check([2, ty, 1, 0]), Err(10));
+        assert_eq!(check([2, ty, 0, 1]), Ok(()));
+        assert_eq!(check([1, ty, 0, 1]), Err(13));
+        assert_eq!(check([1, ty, 12, 1]), Err(12));
+    }
+    for ty in [6, 9] {
+        assert_eq!(check([2, ty, 0, 2]), Err(10));
+    }
+    assert_eq!(check([2, 3, 1, 9]), Err(11));
+    assert_eq!(check([2, 4, 2, 9]), Err(11));
+    // The last element, and the last string's zero.
+    assert_eq!(check([2, 3, 10, 1]), Ok(()));
+    assert_eq!(check([2, 3, 10, 2]), Err(12));
+    assert_eq!(check([2, 8, 0, 3]), Ok(()));
+    assert_eq!(check([2, 8, 0, 4]), Err(12));
+    assert_eq!(check([2, 8, 9, 1]), Err(12));
+    // Products and sums that wrap in 32 bits.
+    assert_eq!(check([2, 4, 0, 1 << 30]), Err(12));
+    assert_eq!(check([2, 3, 0, (1 << 31) + 1]), Err(12));
+    assert_eq!(check([2, 4, u32::MAX - 3, 1]), Err(12));
+    assert_eq!(check([2, 8, 0, u32::MAX]), Err(12));
+}
+
+#[test]
+fn look_ups() {
+    let header = structure(
+        &[[7, 8, 0, 3], [8, 3, 8, 2]],
+        b"ab\0\0cd\0.\x01\x02\x03\x04",
+    );
+    let package = with_header(header);
+    let store = H + 48;
+    for number in [1, 2, u32::MAX] {
+        assert_eq!(find(&package, number, 7, 8), Ok(store..store + 7));
+    }
+    assert_eq!(find(&package, 0, 7, 8), refused(25, 0));
+    assert_eq!(find(&package, 0, 1000, 4), Ok(128..132));
+    // A tag with another type is not found.
+    assert_eq!(find(&package, 1, 8, 4), refused(25, 0));
+    assert_eq!(find(&package, 1, 9, 8), refused(25, 0));
+
+    let element = |tag, ty, n| find_element(&package, 1, tag, ty, n);
+    assert_eq!(element(7, 8, 0), Ok(store..store + 3));
+    assert_eq!(element(7, 8, 1), Ok(store + 3..store + 4));
+    assert_eq!(element(7, 8, 2), Ok(store + 4..store + 7));
+    assert_eq!(element(7, 8, 3), refused(26, 0));
+    assert_eq!(element(8, 3, 1), Ok(store + 10..store + 12));
+    assert_eq!(element(8, 3, 2), refused(26, 0));
+    assert_eq!(element(8, 3, u32::MAX), refused(26, 0));
+    assert_eq!(element(8, 4, u32::MAX), refused(25, 0));
+    // A refused header refuses the signature's look-ups too.
+    assert_eq!(find(&package[..140], 0, 1000, 4), refused(5, H));
+    assert_eq!(answer(&find(&package, 1, 7, 8)), store as u64);
+    assert_eq!(answer(&element(7, 8, 3)), 26 << 32);
+}
+
+#[test]
+fn required_versions() {
+    let names = Entry::new(1049, 8, &[b"glass\0", b"\0", b"glaze\0", b"glass\0"]);
+    let versions = Entry::new(1050, 8, &[b"1.0\0", b"2\0", b"\0", b"3\0"]);
+    let of = |entries: &[Entry]| with_header(maker::Structure::of(entries));
+    let package = of(&[names.clone(), versions.clone()]);
+    assert_eq!(required_version(&package, b"glass"), b"1.0\0");
+    assert_eq!(required_version(&package, b""), b"2\0");
+    assert_eq!(required_version(&package, b"glaze"), b"\0");
+    for name in [&b"glas"[..], b"glasses", b"glass\0", b"\0", b"GLASS"] {
+        assert_eq!(required_version(&package, name), b"");
+    }
+    assert_eq!(required_version(&package[..140], b"glass"), b"");
+    assert_eq!(required_version(&of(&[names.clone()]), b"glass"), b"");
+    let fewer = Entry::new(1050, 8, &[b"1.0\0", b"2\0", b"3\0"]);
+    assert_eq!(required_version(&of(&[names, fewer]), b"glass"), b"");
+    let single = Entry::new(1049, 6, &[b"glass\0"]);
+    let version = Entry::new(1050, 8, &[b"1.0\0"]);
+    assert_eq!(required_version(&of(&[single, version]), b"glass"), b"");
+}
+
+#[test]
+fn index_walk() {
+    let records = [[7, 8, 0, 3], [8, 3, 8, 2], [5, 1, 0, 1]];
+    let package = with_header(structure(&records, b"ab\0\0cd\0.\x01\x02\x03\x04"));
+    let mut position = 0;
+    for (visited, numbers) in records.into_iter().enumerate() {
+        let place = (H + 16 + 16 * visited) as u32;
+        let next = position + 1;
+        let right = Step {
+            number: 0,
+            place,
+            numbers,
+            next,
+        };
+        assert_eq!(step(&package, 1, position), right);
+        position = next;
+    }
+    let stays = |number, place, next| Step {
+        number,
+        place,
+        numbers: [0; 4],
+        next,
+    };
+    assert_eq!(step(&package, 1, 3), stays(26, 0, 3));
+    assert_eq!(step(&package, 1, u32::MAX), stays(26, 0, u32::MAX));
+    assert_eq!(step(&package, 0, 1), stays(26, 0, 1));
+    assert_eq!(step(&package[..95], 0, 0), stays(3, 95, 0));
+}

@@ -1,0 +1,27 @@
+#!/bin/sh
+# The host tests: run from the repository's root, after `rt staticlib station`.
+# STATION_LIB names another library to test.
+set -eu
+
+lib=${STATION_LIB:-target/staticlib/libstation.a}
+out=target/host
+rust="rustc --edition 2021 -O -D warnings"
+
+[ -f "$lib" ] || { echo "tests: no $lib (rt staticlib station makes it)" >&2; exit 1; }
+mkdir -p "$out"
+
+echo "tests: the reference's own tests"
+$rust --test tests/reference/lib.rs -o "$out/reference_test"
+"$out/reference_test" --quiet
+
+echo "tests: the C calls, from C"
+gcc -O2 -Wall -Wextra -Werror -Iinclude tests/c/find_test.c "$lib" -o "$out/find_test"
+"$out/find_test" tests/data
+
+echo "tests: the C calls, compared with the reference"
+$rust --crate-type rlib --crate-name reference tests/reference/lib.rs -o "$out/libreference.rlib"
+$rust tests/compare/main.rs --extern "reference=$out/libreference.rlib" \
+    -C "link-arg=$lib" -o "$out/compare"
+"$out/compare" tests/data "$out/difference.rpm"
+
+echo "tests: all right"
