@@ -1,7 +1,7 @@
 // What the program's arguments ask for.
 use text::Parsed;
 
-// A structure; with a tag and a type; with an element number too. A required version's name is read where it is used.
+// A request by its numbers: structure, tag, type and element. The name of a required version is read where it is used.
 pub enum Request {
     Index(u32),
     Find(u32, u32, u32),

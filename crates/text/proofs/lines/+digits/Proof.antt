@@ -1,11 +1,11 @@
 -- The digits before the last are those of a tenth of the number. The measure is the number.
 -- Assumes nothing.
+use Prim.Native.Nat.{ℕ, _<_}
 use native.Mathlib.Omega.{arith}
 use borrow.Author.Needs.{needs}
-use Rattle.text.proofs.LineLaws as laws
-use Prim.Native.Nat.{ℕ, _<_}
 use borrow.Fn.Kinds.{In}
 use borrow.Fn.PlainCycle.{Measures, is, falls, and}
+use Rattle.text.proofs.LineLaws as laws
 use Rattle.text.proofs.lines.digits.Reads as digits
 use Rattle.text.proofs.lines.digits.Kinds as digits-kinds
 use Rattle.text.proofs.lines.+digits.Lts-digits as digits-lts
