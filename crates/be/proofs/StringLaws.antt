@@ -1,6 +1,6 @@
 -- Laws of `stringsFrom`, one for each way through a turn of the scan.
 use Prim.Native.Nat.{ℕ, zero, suc, _+_, _-_, _≤_, _<_}
-use mathlib.Core.Path.{_≡_, refl, sym, ap, ap₂, _∙_}
+use mathlib.Core.Path.{_≡_, refl, sym, _∙_}
 use mathlib.Core.List.{List}
 use lib.ListN.{getD}
 use mathlib.Core.Bool.{Bool, true, false, cond}

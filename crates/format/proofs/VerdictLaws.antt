@@ -1,15 +1,15 @@
 -- How a run of checks goes on or stops.
-use Prim.Native.Nat.{ℕ, _+_, _*_, _≤_, _<_}
+use Prim.Native.Nat.{ℕ, _+_, _*_}
 use mathlib.Core.Path.{_≡_, refl, sym, ap, _∙_}
-use mathlib.Core.Bool.{Bool, true, false, not, _&&_}
-use lib.Dec.{leb, eqb}
+use mathlib.Core.Bool.{Bool, true, false, not}
+use lib.Dec.{eqb}
 use borrow.Author.Tests.{eq-eqb, ne-eqb, le-leb, lt-leb, not-true, not-false}
 use native.Mathlib.Omega.{arith}
 use Rattle.format.specs.declared.verdict.Verdict.{Verdict}
 use Rattle.format.specs.declared.verdict.Verdict.the-variants.{Pass, Fail}
 use Rattle.format.specs.declared.verdict.Answer.{Answer}
 use Rattle.format.specs.declared.verdict.Answer.the-variants.{Done, Refused}
-use Rattle.format.specs.Verdicts.{check, both, answerOf, packedOf}
+use Rattle.format.specs.Verdicts.{check, both, packedOf}
 
 pub passed : {ok : Bool} (number place : ℕ) {v rest : Verdict} → ok ≡ true → v ≡ rest → v ≡ check ok number place rest
 unfolding check
@@ -62,13 +62,7 @@ untold-not e h = ap not (sym e ∙ h)
 
 pub ruleset answers = (told, untold, told-not, untold-not)
 
--- the answer and its packed number, by cases
-pub answer-pass : {v : Verdict} (place : ℕ) → v ≡ Pass → Done place ≡ answerOf v place
-answer-pass place h = rw h
-
-pub answer-fail : {v : Verdict} {number at : ℕ} (place : ℕ) → v ≡ Fail number at → Refused number at ≡ answerOf v place
-answer-fail place h = rw h
-
+-- an answer's packed number, by cases
 pub packed-done : {a : Answer} {place : ℕ} → a ≡ Done place → place ≡ packedOf a
 packed-done h = rw h (omega arith)
 

@@ -16,11 +16,6 @@ unfoldable pub both : Verdict → Verdict → Verdict
 both Pass rest = rest
 both (Fail number place) rest = Fail number place
 
--- a call that succeeds with a place where its checks pass
-abbrev pub answerOf : Verdict → ℕ → Answer
-answerOf Pass place = Done place
-answerOf (Fail number at) place = Refused number at
-
 -- the paper's number and place of an answer: success is 0
 abbrev pub numberOf : Answer → ℕ
 numberOf (Done place) = 0

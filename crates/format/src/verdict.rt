@@ -1,6 +1,6 @@
 // What a run of checks finds, and what a public call answers.
 ghost use mathlib.Core.Path.{_≡_};
-ghost use Rattle.format.specs.Verdicts.{packedOf, answerOf};
+ghost use Rattle.format.specs.Verdicts.{packedOf};
 
 // All checks passed, or the number of the first that failed and its place.
 pub enum Verdict {
@@ -12,18 +12,6 @@ pub enum Verdict {
 pub enum Answer {
     Done(u32),
     Refused(u32, u32),
-}
-
-impl Verdict {
-    // The answer of a call that succeeds with a place where its checks pass.
-    pub fn answer(self, place: u32) -> Answer
-        ensures { λ r. ⌜ r ≡ answerOf self place ⌝ }
-    {
-        match self {
-            Verdict::Pass => Answer::Done(place),
-            Verdict::Fail(number, at) => Answer::Refused(number, at),
-        }
-    }
 }
 
 impl Answer {

@@ -1,10 +1,8 @@
 -- Checks 2 to 13 over a package, from what each block found.
-use Prim.Native.Nat.{ℕ, _+_, _*_, _/_, _≤_, _<_}
+use Prim.Native.Nat.{ℕ, _≤_}
 use mathlib.Core.Path.{_≡_, refl, sym, ap, _∙_}
 use mathlib.Core.List.{List}
-use mathlib.Core.Bool.{Bool, true, false, cond}
 use lib.ListN.{length}
-use lib.Dec.{eqb}
 use mir.Syntax.{w32}
 use mir.Val.{Fits}
 use native.Mathlib.Omega.{arith}
@@ -21,10 +19,9 @@ use Rattle.format.proofs.VerdictLaws.{inverted, both-inverted, both-pass, both-
 use Rattle.structure.specs.declared.lookup.Found.{Found}
 use Rattle.structure.specs.declared.checks.Checked.{Checked}
 use Rattle.structure.specs.declared.checks.Checked.the-variants as checked
-use Rattle.structure.specs.Structure.{sectionAt, structureCheck}
-use Rattle.structure.specs.Lookup.{findIn, checkedAs, structureChecked}
+use Rattle.structure.specs.Structure.{structureCheck}
+use Rattle.structure.specs.Lookup.{findIn, structureChecked}
 use Rattle.structure.proofs.PassLaws.{structure-header, checked-sound, checked-unsound}
-use Rattle.package.specs.declared.sound.Opened.{Opened}
 use Rattle.package.specs.declared.sound.Opened.the-variants as opened′
 use Rattle.package.specs.declared.sound.Searched.{Searched}
 use Rattle.package.specs.declared.sound.Searched.the-variants.{Within, Refused}

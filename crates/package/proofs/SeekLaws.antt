@@ -1,38 +1,27 @@
 -- Look-ups: what they come to, by what was searched; what they find is sound.
-use Prim.Native.Nat.{ℕ, _+_, _-_, _*_, _≤_, _<_}
-use mathlib.Core.Path.{_≡_, refl, sym, ap, _∙_}
+use Prim.Native.Nat.{ℕ, _≤_, _<_}
+use mathlib.Core.Path.{_≡_, refl, sym, _∙_}
 use mathlib.Core.List.{List, []}
 use mathlib.Core.Bool.{Bool, true, false, cond}
 use lib.ListN.{length}
-use lib.Dec.{eqb, ltb}
+use lib.Dec.{eqb}
 use native.Mathlib.Omega.{arith}
-use native.Mathlib.Nat.{mul-le-mul-left}
-use borrow.Author.Tests.{lt-ltb, le-ltb, ltb-true}
-use Rattle.be.specs.declared.Ending.{Ending}
-use Rattle.be.specs.declared.Ending.the-variants.{Ends, Open}
-use Rattle.be.specs.Strings.{stringsFrom}
-use Rattle.be.proofs.StringLaws.{bound, split}
-use Rattle.format.specs.declared.places.FileOffset.{FileOffset}
 use Rattle.format.specs.declared.places.Section.{Section}
 use Rattle.format.specs.declared.verdict.Verdict.{Verdict}
 use Rattle.format.specs.declared.verdict.Verdict.the-variants.{Pass, Fail}
-use Rattle.format.specs.declared.verdict.Answer.{Answer}
 use Rattle.format.specs.declared.verdict.Answer.the-variants as answer
-use Rattle.structure.specs.declared.types.ElementSize.{ElementSize}
-use Rattle.structure.specs.declared.types.ElementSize.the-variants.{Bytes, ToZero, Unlawful}
 use Rattle.structure.specs.declared.lookup.Entry.{Entry}
 use Rattle.structure.specs.declared.lookup.Found.{Found}
 use Rattle.structure.specs.declared.lookup.Found.the-variants.{At, Nothing}
-use Rattle.structure.specs.Types.{elementSize}
-use Rattle.structure.specs.Lookup.{extentTo, findIn}
+use Rattle.structure.specs.Lookup.{findIn}
 use Rattle.structure.specs.Sound.{SoundEntry}
 use Rattle.structure.proofs.SoundLaws.{found-sound, sound-longer}
 use Rattle.package.specs.declared.sound.Searched.{Searched}
 use Rattle.package.specs.declared.sound.Searched.the-variants as searched′
 use Rattle.package.specs.declared.lookup.Sought.{Sought}
 use Rattle.package.specs.declared.lookup.Sought.the-variants.{Here, Refused}
-use Rattle.package.specs.Package.{headerStart, signatureAt, headerAt, sectionFor, structureOf, soundCheck, searched}
-use Rattle.package.specs.Lookup.{soughtAs, sought, soughtBytes, soughtAnswer, stringPart, elementFor, elementOf, elementAs, soughtElement}
+use Rattle.package.specs.Package.{signatureAt, headerAt, structureOf, soundCheck, searched}
+use Rattle.package.specs.Lookup.{soughtAs, sought, soughtBytes, soughtAnswer}
 use Rattle.package.proofs.OpenLaws.{within, refused, sound-size, sound-signature, sound-header}
 
 -- in the shape of what is known where a look-up returns: r is what was searched

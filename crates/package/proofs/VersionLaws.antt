@@ -1,21 +1,20 @@
 -- The search for a required version, one law for each way through a turn.
-use Prim.Native.Nat.{ℕ, zero, suc, _+_, _-_, _*_, _≤_, _<_}
+use Prim.Native.Nat.{ℕ, suc, _+_, _-_, _≤_, _<_}
 use mathlib.Core.Path.{_≡_, refl, sym, ap, _∙_}
 use mathlib.Core.List.{List}
 use mathlib.Core.Bool.{Bool, true, false, cond}
-use lib.ListN.{length, take, drop}
-use lib.Dec.{eqb}
+use lib.ListN.{take, drop}
 use mir.Syntax.{w64}
 use mir.Val.{Fits}
 use native.Mathlib.Omega.{arith}
 use borrow.Author.Tests.{eq-eqb, ne-eqb}
 use Rattle.be.specs.declared.Ending.{Ending}
-use Rattle.be.specs.declared.Ending.the-variants.{Ends, Open}
+use Rattle.be.specs.declared.Ending.the-variants.{Ends}
 use Rattle.be.specs.Bytes.{sameBytes}
 use Rattle.be.specs.Strings.{stringsFrom}
 use Rattle.be.proofs.StringLaws.{bound, positive, split}
 use Rattle.format.specs.declared.places.Section.{Section}
-use Rattle.format.specs.declared.verdict.Verdict.the-variants.{Pass, Fail}
+use Rattle.format.specs.declared.verdict.Verdict.the-variants.{Pass}
 use Rattle.structure.specs.declared.types.ElementSize.the-variants.{ToZero}
 use Rattle.structure.specs.declared.lookup.Entry.{Entry}
 use Rattle.structure.specs.declared.lookup.Found.{Found}

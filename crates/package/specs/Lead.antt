@@ -1,6 +1,4 @@
 -- Document 01, "Lead" and check 4.
-use Prim.Native.Nat.{ℕ}
-use mathlib.Core.Bool.{Bool}
 use lib.Dec.{eqb}
 use Rattle.format.specs.declared.lead.Lead.{Lead}
 use Rattle.format.specs.declared.verdict.Verdict.{Verdict}

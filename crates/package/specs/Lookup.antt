@@ -1,8 +1,8 @@
 -- Document 01, "Numbers the station shows": look-ups and element look-ups.
 use Prim.Native.Nat.{ℕ, _+_, _-_, _*_}
 use mathlib.Core.List.{List, []}
-use mathlib.Core.Bool.{Bool, cond}
-use lib.ListN.{length, take, drop}
+use mathlib.Core.Bool.{cond}
+use lib.ListN.{take, drop}
 use lib.Dec.{ltb}
 use Rattle.be.specs.declared.Ending.{Ending}
 use Rattle.be.specs.declared.Ending.the-variants.{Ends, Open}

@@ -1,7 +1,7 @@
 -- Document 01, checks 2 to 13 over a whole package. The length is a number of its own.
 use Prim.Native.Nat.{ℕ, _+_, _*_, _/_}
 use mathlib.Core.List.{List}
-use mathlib.Core.Bool.{Bool, cond}
+use mathlib.Core.Bool.{cond}
 use lib.ListN.{length}
 use lib.Dec.{eqb, leb}
 use Rattle.format.specs.declared.places.Section.{Section}

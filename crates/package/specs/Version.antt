@@ -1,7 +1,7 @@
 -- Document 01, "Numbers the station shows": the version required for a lent package name.
 use Prim.Native.Nat.{ℕ, zero, suc, _+_, _-_}
-use mathlib.Core.List.{List, []}
-use mathlib.Core.Bool.{Bool, cond}
+use mathlib.Core.List.{List}
+use mathlib.Core.Bool.{cond}
 use lib.ListN.{take, drop}
 use lib.Dec.{eqb}
 use Rattle.be.specs.Bytes.{sameBytes}
@@ -15,7 +15,7 @@ use Rattle.structure.specs.Lookup.{findIn}
 use Rattle.package.specs.declared.lookup.Sought.{Sought}
 use Rattle.package.specs.declared.lookup.Sought.the-variants.{Here, Refused}
 use Rattle.package.specs.Package.{soundCheck, headerAt}
-use Rattle.package.specs.Lookup.{entryBytes, elementOf, soughtBytes}
+use Rattle.package.specs.Lookup.{elementOf, soughtBytes}
 
 -- the tags, and the type of a string array
 abbrev pub requireName : ℕ

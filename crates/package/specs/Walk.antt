@@ -1,16 +1,14 @@
 -- Document 01, "Numbers the station shows": walking an index.
 use Prim.Native.Nat.{ℕ, _+_}
 use mathlib.Core.List.{List}
-use mathlib.Core.Bool.{Bool, cond}
+use mathlib.Core.Bool.{cond}
 use lib.Dec.{ltb}
 use Rattle.format.specs.declared.places.Section.{Section}
-use Rattle.format.specs.declared.records.IndexRecord.{IndexRecord}
 use Rattle.format.specs.declared.verdict.Verdict.{Verdict}
 use Rattle.format.specs.declared.verdict.Verdict.the-variants.{Pass, Fail}
 use Rattle.format.specs.declared.verdict.Answer.the-variants.{Done, Refused}
 use Rattle.format.specs.Places.{recordPlace}
 use Rattle.structure.specs.Entries.{recordAt}
-use Rattle.package.specs.declared.walk.Position.{Position}
 use Rattle.package.specs.declared.walk.Step.{Step}
 use Rattle.package.specs.Package.{soundCheck, structureOf}
 

@@ -20,7 +20,7 @@ pub enum Sought {
 }
 
 // Checks 2 to 13 and 25: the entry of a structure with the tag and the type.
-pub fn seek(pkg: &[u8], which: u32, tag: u32, ty: u32) -> Sought
+pub(crate) fn seek(pkg: &[u8], which: u32, tag: u32, ty: u32) -> Sought
     ensures { λ r. ⌜ r ≡ sought (now (pkg .entry)) which tag ty ⌝ }
 {
     let found = search(pkg, which, tag, ty);
@@ -34,7 +34,7 @@ pub fn seek(pkg: &[u8], which: u32, tag: u32, ty: u32) -> Sought
 }
 
 // The bytes of what was sought: the part of the package that is the data, or an empty part.
-pub fn shown(pkg: &[u8], found: Sought) -> &[u8]
+pub(crate) fn shown(pkg: &[u8], found: Sought) -> &[u8]
     ensures { λ r. ⌜ now r ≡ soughtBytes (now (pkg .entry)) found ⌝ }
 {
     match found {
@@ -133,7 +133,7 @@ pub(crate) fn element(pkg: &[u8], entry: Entry, k: u32) -> Entry
 }
 
 // Checks 2 to 13, 25 and 26: element `k` of the entry of a structure with the tag and the type.
-pub fn seek_element(pkg: &[u8], which: u32, tag: u32, ty: u32, k: u32) -> Sought
+fn seek_element(pkg: &[u8], which: u32, tag: u32, ty: u32, k: u32) -> Sought
     ensures { λ r. ⌜ r ≡ soughtElement (now (pkg .entry)) which tag ty k ⌝ }
 {
     let found = seek(pkg, which, tag, ty);

@@ -25,7 +25,7 @@ pub enum Searched {
 }
 
 // Checks 2 and 3.
-pub fn size_check(len: usize) -> Verdict
+fn size_check(len: usize) -> Verdict
     ensures { λ r. ⌜ r ≡ sizeCheck len ⌝ }
 {
     if FileOffset::LIMIT < len {
@@ -38,7 +38,7 @@ pub fn size_check(len: usize) -> Verdict
 }
 
 // Check 4.
-pub fn lead_check(lead: Lead) -> Verdict
+fn lead_check(lead: Lead) -> Verdict
     ensures { λ r. ⌜ r ≡ leadCheck lead ⌝ }
 {
     if lead.magic != 0xEDAB_EEDB {
@@ -100,7 +100,7 @@ fn structures(pkg: &[u8], len: u32, which: u32, tag: u32, ty: u32) -> Searched
 }
 
 // Checks 2 to 13, and the entry of one structure (0 the signature, any other number the header) with the tag and the type.
-pub fn search(pkg: &[u8], which: u32, tag: u32, ty: u32) -> Searched
+pub(crate) fn search(pkg: &[u8], which: u32, tag: u32, ty: u32) -> Searched
     ensures { λ r. ⌜ r ≡ searched (now (pkg .entry)) which tag ty ⌝ }
 {
     let len = pkg.len();

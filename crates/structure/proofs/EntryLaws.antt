@@ -1,24 +1,23 @@
 -- Laws of one index record's rules, for each way through the functions that test them.
-use Prim.Native.Nat.{ℕ, zero, suc, _+_, _-_, _*_, _≤_, _<_, _^_}
+use Prim.Native.Nat.{ℕ, suc, _+_, _-_, _*_, _≤_, _<_, _^_}
 use mathlib.Core.Path.{_≡_, refl, sym, ap, _∙_}
 use mathlib.Core.List.{List}
-use mathlib.Core.Bool.{Bool, true, false, cond, _||_}
+use mathlib.Core.Bool.{Bool, true, false, _||_}
 use lib.Dec.{eqb, leb}
 use native.Mathlib.Omega.{arith}
 use native.Mathlib.Nat.{mul-le-mul-right}
-use borrow.Author.Tests.{eq-eqb, ne-eqb, le-leb, lt-leb, leb-true}
+use borrow.Author.Tests.{eq-eqb, ne-eqb, le-leb, lt-leb}
 use Rattle.be.specs.declared.Ending.{Ending}
 use Rattle.be.specs.declared.Ending.the-variants.{Ends, Open}
 use Rattle.be.specs.Numbers.{be32At}
 use Rattle.be.specs.Strings.{stringsFrom}
-use Rattle.be.proofs.StringLaws.{bound as strings-bound}
 use Rattle.format.specs.declared.places.Section.{Section}
 use Rattle.format.specs.declared.records.IndexRecord.{IndexRecord}
-use Rattle.format.specs.Places.{recordPlace, storePlace, inFile, sectionEnd}
+use Rattle.format.specs.Places.{recordPlace, inFile, sectionEnd}
 use Rattle.structure.specs.declared.types.ElementSize.{ElementSize}
 use Rattle.structure.specs.declared.types.ElementSize.the-variants.{Bytes, ToZero, Unlawful}
 use Rattle.structure.specs.Types.{elementSize}
-use Rattle.structure.specs.Entries.{countRight, endFor, dataEnd, tagBefore}
+use Rattle.structure.specs.Entries.{countRight, dataEnd, tagBefore}
 use Rattle.structure.proofs.TypeLaws.{bytes-small}
 
 pub count-six : (e : IndexRecord) → e .ty ≡ 6 → eqb (e .count) 1 ≡ countRight e

@@ -1,6 +1,6 @@
 -- What a structure that passed its checks is, and the answer of the checks from what was read.
-use Prim.Native.Nat.{ℕ, zero, suc, _+_, _*_, _≤_, _<_}
-use mathlib.Core.Path.{_≡_, refl, sym, ap, _∙_}
+use Prim.Native.Nat.{ℕ, zero, suc, _+_, _<_}
+use mathlib.Core.Path.{_≡_, refl, sym, _∙_}
 use mathlib.Core.List.{List}
 use native.Mathlib.Omega.{arith}
 use borrow.Author.Tests.{leb-true, eqb-true}
@@ -8,9 +8,8 @@ use Rattle.format.specs.declared.places.Section.{Section}
 use Rattle.format.specs.declared.records.HeaderRecord.{HeaderRecord}
 use Rattle.format.specs.declared.verdict.Verdict.{Verdict}
 use Rattle.format.specs.declared.verdict.Verdict.the-variants.{Pass, Fail}
-use Rattle.format.specs.Places.{storePlace, sectionEnd}
+use Rattle.format.specs.Places.{storePlace}
 use Rattle.format.specs.Records.{headerRecordAt}
-use Rattle.format.specs.Verdicts.{both}
 use Rattle.format.proofs.VerdictLaws.{inverted, both-inverted, both-pass, both-fail}
 use Rattle.structure.specs.declared.lookup.Found.{Found}
 use Rattle.structure.specs.declared.checks.Checked.{Checked}

@@ -3,29 +3,28 @@ use Prim.Native.Nat.{ℕ, zero, suc, _+_, _-_, _*_, _≤_, _<_}
 use mathlib.Core.Path.{_≡_, refl, sym, ap, _∙_}
 use mathlib.Core.Logic.{_⊎_, inl, inr, ⊎-elim}
 use mathlib.Core.List.{List}
-use mathlib.Core.Bool.{Bool, true, false, cond, not, _&&_, _||_}
+use mathlib.Core.Bool.{Bool, true, false, cond, _&&_, _||_}
 use lib.Dec.{eqb, leb}
 use native.Mathlib.Omega.{arith}
 use native.Mathlib.Nat.{mul-le-mul-right}
 use borrow.Author.Tests.{leb-true, eqb-true, eqb-false}
 use Rattle.be.specs.declared.Ending.{Ending}
 use Rattle.be.specs.declared.Ending.the-variants.{Ends, Open}
-use Rattle.be.specs.Strings.{stringsFrom, isEnded}
+use Rattle.be.specs.Strings.{isEnded}
 use Rattle.be.proofs.StringLaws.{bound, positive, tight}
 use Rattle.format.specs.declared.places.Section.{Section}
 use Rattle.format.specs.declared.records.IndexRecord.{IndexRecord}
-use Rattle.format.specs.declared.verdict.Verdict.the-variants.{Pass, Fail}
-use Rattle.format.specs.Places.{recordPlace, storePlace, sectionEnd, inFile}
+use Rattle.format.specs.declared.verdict.Verdict.the-variants.{Pass}
+use Rattle.format.specs.Places.{sectionEnd, inFile}
 use Rattle.format.proofs.VerdictLaws.{inverted}
 use Rattle.structure.specs.declared.types.ElementSize.{ElementSize}
 use Rattle.structure.specs.declared.types.ElementSize.the-variants.{Bytes, ToZero, Unlawful}
 use Rattle.structure.specs.declared.lookup.Entry.{Entry}
-use Rattle.structure.specs.declared.lookup.Found.{Found}
-use Rattle.structure.specs.declared.lookup.Found.the-variants.{At, Nothing}
-use Rattle.structure.specs.Types.{elementSize, isLawful}
-use Rattle.structure.specs.Entries.{recordAt, typeLawful, countRight, isAligned, endFor, dataEnd, tagBefore, entryCheck, recordCheck}
+use Rattle.structure.specs.declared.lookup.Found.the-variants.{At}
+use Rattle.structure.specs.Types.{elementSize}
+use Rattle.structure.specs.Entries.{recordAt, countRight, endFor, dataEnd, entryCheck, recordCheck}
 use Rattle.structure.specs.Structure.{sectionAt, structureCheck}
-use Rattle.structure.specs.Lookup.{extentTo, entryOf, entryAt, isFor, findFrom, findIn}
+use Rattle.structure.specs.Lookup.{entryOf, entryAt, isFor, findFrom, findIn}
 use Rattle.structure.specs.Sound.{SoundEntry}
 use Rattle.structure.proofs.TypeLaws.{bytes-small}
 use Rattle.structure.proofs.PassLaws.{structure-header, structure-record}

@@ -10,8 +10,8 @@ use Rattle.be.specs.Strings.{stringsFrom, isEnded}
 use Rattle.format.specs.declared.places.Section.{Section}
 use Rattle.format.specs.declared.records.IndexRecord.{IndexRecord}
 use Rattle.format.specs.declared.verdict.Verdict.{Verdict}
-use Rattle.format.specs.declared.verdict.Verdict.the-variants.{Pass, Fail}
-use Rattle.format.specs.Places.{recordPlace, storePlace, inFile}
+use Rattle.format.specs.declared.verdict.Verdict.the-variants.{Pass}
+use Rattle.format.specs.Places.{recordPlace, inFile}
 use Rattle.format.specs.Records.{indexRecordAt}
 use Rattle.format.specs.Verdicts.{check}
 use Rattle.structure.specs.declared.types.ElementSize.{ElementSize}

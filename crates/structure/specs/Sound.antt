@@ -1,11 +1,10 @@
 -- Document 01, "Header structure", as it says what a right structure is: no order and no numbers.
-use Prim.Native.Nat.{ℕ, _+_, _*_, _≤_, _<_}
+use Prim.Native.Nat.{ℕ, _+_, _*_, _≤_}
 use mathlib.Core.Path.{_≡_}
 use mathlib.Core.List.{List}
-use mathlib.Core.Bool.{Bool, true}
+use mathlib.Core.Bool.{true}
 use Rattle.be.specs.declared.Ending.the-variants.{Ends}
 use Rattle.be.specs.Strings.{stringsFrom}
-use Rattle.format.specs.declared.places.Section.{Section}
 use Rattle.format.specs.declared.records.HeaderRecord.{HeaderRecord}
 use Rattle.format.specs.Sizes.{headerRecordSize, nindexLimit}
 use Rattle.format.specs.Places.{sectionEnd}

@@ -7,7 +7,7 @@ use lib.Dec.{eqb, leb}
 use Rattle.format.specs.declared.places.Section.{Section}
 use Rattle.format.specs.declared.records.HeaderRecord.{HeaderRecord}
 use Rattle.format.specs.declared.verdict.Verdict.{Verdict}
-use Rattle.format.specs.declared.verdict.Verdict.the-variants.{Pass, Fail}
+use Rattle.format.specs.declared.verdict.Verdict.the-variants.{Pass}
 use Rattle.format.specs.Sizes.{headerRecordSize, nindexLimit}
 use Rattle.format.specs.Places.{sectionEnd}
 use Rattle.format.specs.Records.{headerRecordAt}

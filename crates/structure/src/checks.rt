@@ -21,7 +21,7 @@ pub enum Checked {
 }
 
 // Checks 5 to 8 for the header record at `start`, in a package of `len` bytes.
-pub fn header_check(len: u32, start: u32, h: HeaderRecord) -> Verdict
+fn header_check(len: u32, start: u32, h: HeaderRecord) -> Verdict
     ensures { λ r. ⌜ r ≡ headerCheck len start h ⌝ }
 {
     let room = len as usize;

@@ -9,7 +9,7 @@ use format::Section;
 use format::Verdict;
 
 // Check 9.
-pub fn type_lawful(e: IndexRecord) -> bool
+pub(crate) fn type_lawful(e: IndexRecord) -> bool
     ensures { λ r. ⌜ r ≡ typeLawful e ⌝ }
 {
     let size = element_size(e.ty);
@@ -21,7 +21,7 @@ pub fn type_lawful(e: IndexRecord) -> bool
 }
 
 // Check 10.
-pub fn count_right(e: IndexRecord) -> bool
+pub(crate) fn count_right(e: IndexRecord) -> bool
     ensures { λ r. ⌜ r ≡ countRight e ⌝ }
 {
     if e.ty == 6 {
@@ -34,7 +34,7 @@ pub fn count_right(e: IndexRecord) -> bool
 }
 
 // Check 11.
-pub fn aligned(e: IndexRecord) -> bool
+pub(crate) fn aligned(e: IndexRecord) -> bool
     ensures { λ r. ⌜ r ≡ isAligned e ⌝ }
 {
     let size = element_size(e.ty);
@@ -46,7 +46,7 @@ pub fn aligned(e: IndexRecord) -> bool
 }
 
 // The place in the file behind an entry's data, where that is inside the store (check 12).
-pub fn data_end(s: &[u8], section: Section, e: IndexRecord) -> Ending
+pub(crate) fn data_end(s: &[u8], section: Section, e: IndexRecord) -> Ending
     ensures { λ r. ⌜ r ≡ dataEnd (now (s .entry)) section e ⌝ }
 {
     let size = element_size(e.ty);
@@ -69,7 +69,7 @@ pub fn data_end(s: &[u8], section: Section, e: IndexRecord) -> Ending
 }
 
 // Whether one of the first `i` records has the tag (check 13).
-pub fn tag_before(s: &[u8], section: Section, i: u32, tag: u32) -> bool
+pub(crate) fn tag_before(s: &[u8], section: Section, i: u32, tag: u32) -> bool
     ensures { λ r. ⌜ r ≡ tagBefore (now (s .entry)) section i tag ⌝ }
 {
     let mut k = i;
@@ -84,7 +84,7 @@ pub fn tag_before(s: &[u8], section: Section, i: u32, tag: u32) -> bool
 }
 
 // Checks 9 to 13 for record `i`, which is `e` and starts at `place`, with where its data ends.
-pub fn entry_check(
+pub(crate) fn entry_check(
     s: &[u8],
     section: Section,
     i: u32,

@@ -32,7 +32,7 @@ pub fn extent_to(from: usize, end: Ending) -> usize
 }
 
 // The entry of an index record whose data ends at a place.
-pub fn entry_of(section: Section, e: IndexRecord, end: Ending) -> Entry
+pub(crate) fn entry_of(section: Section, e: IndexRecord, end: Ending) -> Entry
     ensures { λ r. ⌜ r ≡ entryOf section e end ⌝ }
 {
     let at = e.offset.in_file(section);
@@ -46,7 +46,7 @@ pub fn entry_of(section: Section, e: IndexRecord, end: Ending) -> Entry
 }
 
 // Whether an index record has the tag and the type.
-pub fn is_for(tag: u32, ty: u32, e: IndexRecord) -> bool
+pub(crate) fn is_for(tag: u32, ty: u32, e: IndexRecord) -> bool
     ensures { λ r. ⌜ r ≡ isFor tag ty e ⌝ }
 {
     if e.tag != tag {
@@ -56,7 +56,14 @@ pub fn is_for(tag: u32, ty: u32, e: IndexRecord) -> bool
 }
 
 // What is found once an index record has been seen: the first with the tag and the type stays.
-pub fn note(found: Found, tag: u32, ty: u32, section: Section, e: IndexRecord, end: Ending) -> Found
+pub(crate) fn note(
+    found: Found,
+    tag: u32,
+    ty: u32,
+    section: Section,
+    e: IndexRecord,
+    end: Ending,
+) -> Found
     ensures { λ r. ⌜ r ≡ noted found tag ty section e end ⌝ }
 {
     match found {

@@ -3,54 +3,40 @@ use Rattle.be.proofs.ByteLaws.{part-past, part-tail, part-inside}
 use borrow.Author.Needs.{needs}
 use Rattle.be.proofs.part.Statement.{statement}
 use Rattle.be.proofs.part.Tie as tie
-use Rattle.be.proofs.part.Reads as reads
-use Rattle.be.proofs.part.Lts as lts
 
--- src/lib.rt:65:9
 slice-aggregate-result : tie.Need-slice-aggregate-result
 slice-aggregate-result c = search needs
 
--- src/lib.rt:65:9
 returns : tie.Need-returns
 returns c = search part-past
 
--- src/lib.rt:67:16
 sub-rest : tie.Need-sub-rest
 sub-rest c = search needs
 
--- src/lib.rt:69:16
 sub-result : tie.Need-sub-result
 sub-result c = search needs
 
--- src/lib.rt:69:16
 part-result-start : tie.Need-part-result-start
 part-result-start c = search needs
 
--- src/lib.rt:69:16
 part-result-end : tie.Need-part-result-end
 part-result-end c = search needs
 
--- src/lib.rt:69:9
 returns-2 : tie.Need-returns-2
 returns-2 c = search part-tail
 
--- src/lib.rt:71:14
 add-to : tie.Need-add-to
 add-to c = search needs
 
--- src/lib.rt:72:5
 sub-result-2 : tie.Need-sub-result-2
 sub-result-2 c = search needs
 
--- src/lib.rt:72:5
 part-result-start-2 : tie.Need-part-result-start-2
 part-result-start-2 c = search needs
 
--- src/lib.rt:72:5
 part-result-end-2 : tie.Need-part-result-end-2
 part-result-end-2 c = search needs
 
--- src/lib.rt:60:1
 returns-3 : tie.Need-returns-3
 returns-3 c = search part-inside
 

@@ -1,14 +1,12 @@
 -- What is left of both decides. Assumes nothing.
 use borrow.Author.Needs.{needs}
-use Prim.Native.Nat.{_≤_, _-_}
+use Prim.Native.Nat.{_-_}
 use mathlib.Core.Path.{_≡_, refl}
 use lib.ListN.{length, drop}
 use Rattle.be.specs.Bytes.{sameBytes}
 use Rattle.be.proofs.SameLaws as laws
 use Rattle.be.proofs.same.Statement.{statement}
 use Rattle.be.proofs.same.Tie as tie
-use Rattle.be.proofs.same.Reads as reads
-use Rattle.be.proofs.same.Lts as lts
 
 abbrev Inv-loop : tie.InvT-loop
 Inv-loop a b len i₀ i = (length b ≡ length a) × (sameBytes a b ≡ sameBytes (drop i a) (drop i b))
@@ -16,39 +14,30 @@ Inv-loop a b len i₀ i = (length b ≡ length a) × (sameBytes a b ≡ sameByte
 abbrev μ-loop : tie.MeasureT-loop
 μ-loop a b len i₀ i = len - i
 
--- src/lib.rt:82:9
 returns : tie.Need-returns Inv-loop μ-loop
 returns c = search laws.lengths-differ
 
--- src/lib.rt:85:5
 loop-holds : tie.Need-loop-holds Inv-loop μ-loop
 loop-holds c = (search needs, refl)
 
--- src/lib.rt:86:12
 shared-slice-read-if2 : tie.Need-shared-slice-read-if2 Inv-loop μ-loop
 shared-slice-read-if2 c = search needs
 
--- src/lib.rt:86:20
 shared-slice-read-if2-2 : tie.Need-shared-slice-read-if2-2 Inv-loop μ-loop
 shared-slice-read-if2-2 c = search needs
 
--- src/lib.rt:87:13
 returns-2 : tie.Need-returns-2 Inv-loop μ-loop
 returns-2 c = search laws.ends
 
--- src/lib.rt:89:9
 add-i : tie.Need-add-i Inv-loop μ-loop
 add-i c = search needs
 
--- src/lib.rt:85:5
 loop-less : tie.Need-loop-less Inv-loop μ-loop
 loop-less c = search needs
 
--- src/lib.rt:85:5
 loop-again : tie.Need-loop-again Inv-loop μ-loop
 loop-again c = (search needs, search laws.turn)
 
--- src/lib.rt:77:1
 returns-3 : tie.Need-returns-3 Inv-loop μ-loop
 returns-3 c = search laws.spent
 

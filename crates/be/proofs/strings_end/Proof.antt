@@ -6,9 +6,6 @@ use Rattle.be.specs.Strings.{stringsFrom}
 use Rattle.be.proofs.StringLaws as strings
 use Rattle.be.proofs.strings_end.Statement.{statement}
 use Rattle.be.proofs.strings_end.Tie as tie
-use Rattle.be.proofs.strings_end.Reads as reads
-use Rattle.be.proofs.strings_end.Lts as lts
-use Rattle.be.proofs.byte_at.Reads as byte-at-reads
 
 abbrev Inv-loop : tie.InvT-loop
 Inv-loop s at end count i₀ left₀ i left = stringsFrom s (end - at) at count ≡ stringsFrom s (end - i) i left
@@ -16,47 +13,36 @@ Inv-loop s at end count i₀ left₀ i left = stringsFrom s (end - at) at count 
 abbrev μ-loop : tie.MeasureT-loop
 μ-loop s at end count i₀ left₀ i left = end - i
 
--- src/lib.rt:87:5
 loop-holds : tie.Need-loop-holds Inv-loop μ-loop
 loop-holds c = search needs
 
--- src/lib.rt:89:13
 returns : tie.Need-returns Inv-loop μ-loop
 returns c = search strings.ends
 
--- src/lib.rt:91:13
 byte-at-requires : tie.Need-byte-at-requires Inv-loop μ-loop
 byte-at-requires c κs = search needs
 
--- src/lib.rt:92:9
 add-i : tie.Need-add-i Inv-loop μ-loop
 add-i c = search needs
 
--- src/lib.rt:94:13
 sub-left : tie.Need-sub-left Inv-loop μ-loop
 sub-left c = search needs
 
--- src/lib.rt:87:5
 loop-less : tie.Need-loop-less Inv-loop μ-loop
 loop-less c = search needs
 
--- src/lib.rt:87:5
 loop-again : tie.Need-loop-again Inv-loop μ-loop
 loop-again c = search strings.turn-zero
 
--- src/lib.rt:87:5
 loop-less-2 : tie.Need-loop-less-2 Inv-loop μ-loop
 loop-less-2 c = search needs
 
--- src/lib.rt:87:5
 loop-again-2 : tie.Need-loop-again-2 Inv-loop μ-loop
 loop-again-2 c = search strings.turn-other
 
--- src/lib.rt:82:1
 returns-2 : tie.Need-returns-2 Inv-loop μ-loop
 returns-2 c = search strings.ends
 
--- src/lib.rt:82:1
 returns-3 : tie.Need-returns-3 Inv-loop μ-loop
 returns-3 c = search strings.spent
 

@@ -3,26 +3,19 @@ use Rattle.package.proofs.SeekLaws as laws
 use borrow.Author.Needs.{needs}
 use Rattle.package.proofs.lookup.answered.Statement.{statement}
 use Rattle.package.proofs.lookup.answered.Tie as tie
-use Rattle.package.proofs.lookup.answered.Reads as reads
-use Rattle.package.proofs.lookup.answered.Lts as lts
 
--- src/lookup.rt:52:22
 enum-known-found : tie.Need-enum-known-found
 enum-known-found c = search needs
 
--- src/lookup.rt:53:25
 cast-place : tie.Need-cast-place
 cast-place c = record { fits = c .before .before .before .before .pre _ (c .before .before .found .given .1) }
 
--- src/lookup.rt:56:25
 enum-known-found-2 : tie.Need-enum-known-found-2
 enum-known-found-2 c = search needs
 
--- src/lookup.rt:47:1
 returns : tie.Need-returns
 returns c = search laws.answer-here
 
--- src/lookup.rt:47:1
 returns-2 : tie.Need-returns-2
 returns-2 c = search laws.answer-refused
 

@@ -3,39 +3,28 @@ use Rattle.package.proofs.SeekLaws as laws
 use borrow.Author.Needs.{needs}
 use Rattle.package.proofs.lookup.seek.Statement.{statement}
 use Rattle.package.proofs.lookup.seek.Tie as tie
-use Rattle.package.proofs.lookup.seek.Reads as reads
-use Rattle.package.proofs.lookup.seek.Lts as lts
-use Rattle.package.proofs.sound.search.Reads as search-reads
 
--- src/lookup.rt:26:9
 search-requires : tie.Need-search-requires
 search-requires c κs = search needs
 
--- src/lookup.rt:28:27
 enum-known-found : tie.Need-enum-known-found
 enum-known-found c = search needs
 
--- src/lookup.rt:29:32
 enum-known-found-2 : tie.Need-enum-known-found-2
 enum-known-found-2 c = search needs
 
--- src/lookup.rt:30:23
 enum-known-f : tie.Need-enum-known-f
 enum-known-f c = search needs
 
--- src/lookup.rt:31:31
 enum-told : tie.Need-enum-told
 enum-told c = search needs
 
--- src/lookup.rt:23:1
 returns : tie.Need-returns
 returns c = search laws.seek-refused
 
--- src/lookup.rt:23:1
 returns-2 : tie.Need-returns-2
 returns-2 c = search laws.seek-here
 
--- src/lookup.rt:23:1
 returns-3 : tie.Need-returns-3
 returns-3 c = search laws.seek-nothing
 

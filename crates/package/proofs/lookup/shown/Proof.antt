@@ -3,31 +3,22 @@ use Rattle.package.proofs.SeekLaws as laws
 use borrow.Author.Needs.{needs}
 use Rattle.package.proofs.lookup.shown.Statement.{statement}
 use Rattle.package.proofs.lookup.shown.Tie as tie
-use Rattle.package.proofs.lookup.shown.Reads as reads
-use Rattle.package.proofs.lookup.shown.Lts as lts
-use Rattle.be.proofs.part.Reads as part-reads
 
--- src/lookup.rt:41:22
 enum-known-found : tie.Need-enum-known-found
 enum-known-found c = search needs
 
--- src/lookup.rt:41:32
 part-requires : tie.Need-part-requires
 part-requires c κs = search needs
 
--- src/lookup.rt:42:34
 enum-told : tie.Need-enum-told
 enum-told c = search needs
 
--- src/lookup.rt:42:34
 slice-aggregate-result : tie.Need-slice-aggregate-result
 slice-aggregate-result c = search needs
 
--- src/lookup.rt:37:1
 returns : tie.Need-returns
 returns c = search laws.bytes-here
 
--- src/lookup.rt:37:1
 returns-2 : tie.Need-returns-2
 returns-2 c = search laws.bytes-refused
 

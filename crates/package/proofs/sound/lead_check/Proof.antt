@@ -7,44 +7,34 @@ use Rattle.package.specs.Lead.{leadCheck}
 use borrow.Author.Needs.{needs}
 use Rattle.package.proofs.sound.lead_check.Statement.{statement}
 use Rattle.package.proofs.sound.lead_check.Tie as tie
-use Rattle.package.proofs.sound.lead_check.Reads as reads
-use Rattle.package.proofs.sound.lead_check.Lts as lts
 
--- src/sound.rt:45:33
 cast-t3 : tie.Need-cast-t3
 cast-t3 c = search needs
 
--- src/sound.rt:45:9
 returns : tie.Need-returns
 unfolding leadCheck
 returns c = stopped _ (omega (arith, tests))
 
--- src/sound.rt:48:33
 cast-t4 : tie.Need-cast-t4
 cast-t4 c = search needs
 
--- src/sound.rt:48:9
 returns-2 : tie.Need-returns-2
 unfolding leadCheck
 returns-2 c = passed _ _ (omega (arith, tests))
     (stopped _ (omega (arith, tests)))
 
--- src/sound.rt:51:33
 cast-t5 : tie.Need-cast-t5
 cast-t5 c = search needs
 
--- src/sound.rt:51:9
 returns-3 : tie.Need-returns-3
 unfolding leadCheck
 returns-3 c = passed _ _ (omega (arith, tests))
     (passed _ _ (omega (arith, tests))
     (stopped _ (omega (arith, tests))))
 
--- src/sound.rt:54:33
 cast-t6 : tie.Need-cast-t6
 cast-t6 c = search needs
 
--- src/sound.rt:54:9
 returns-4 : tie.Need-returns-4
 unfolding leadCheck
 returns-4 c = passed _ _ (omega (arith, tests))
@@ -52,11 +42,9 @@ returns-4 c = passed _ _ (omega (arith, tests))
     (passed _ _ (omega (arith, tests))
     (stopped _ (omega (arith, tests)))))
 
--- src/sound.rt:57:33
 cast-t7 : tie.Need-cast-t7
 cast-t7 c = search needs
 
--- src/sound.rt:57:9
 returns-5 : tie.Need-returns-5
 unfolding leadCheck
 returns-5 c = passed _ _ (omega (arith, tests))
@@ -65,11 +53,9 @@ returns-5 c = passed _ _ (omega (arith, tests))
     (passed _ _ (omega (arith, tests))
     (stopped _ (not-true _ (search))))))
 
--- src/sound.rt:60:33
 cast-t8 : tie.Need-cast-t8
 cast-t8 c = search needs
 
--- src/sound.rt:60:9
 returns-6 : tie.Need-returns-6
 unfolding leadCheck
 returns-6 c = passed _ _ (omega (arith, tests))
@@ -79,11 +65,9 @@ returns-6 c = passed _ _ (omega (arith, tests))
     (passed _ _ (not-false _ (search))
     (stopped _ (omega (arith, tests)))))))
 
--- src/sound.rt:63:33
 cast-t9 : tie.Need-cast-t9
 cast-t9 c = search needs
 
--- src/sound.rt:63:9
 returns-7 : tie.Need-returns-7
 unfolding leadCheck
 returns-7 c = passed _ _ (omega (arith, tests))
@@ -94,7 +78,6 @@ returns-7 c = passed _ _ (omega (arith, tests))
     (passed _ _ (omega (arith, tests))
     (stopped _ (omega (arith, tests))))))))
 
--- src/sound.rt:41:1
 returns-8 : tie.Need-returns-8
 unfolding leadCheck
 returns-8 c = passed _ _ (omega (arith, tests))

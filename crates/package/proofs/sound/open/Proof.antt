@@ -3,27 +3,19 @@ use Rattle.package.proofs.OpenLaws as laws
 use borrow.Author.Needs.{needs}
 use Rattle.package.proofs.sound.open.Statement.{statement}
 use Rattle.package.proofs.sound.open.Tie as tie
-use Rattle.package.proofs.sound.open.Reads as reads
-use Rattle.package.proofs.sound.open.Lts as lts
-use Rattle.package.proofs.sound.search.Reads as search-reads
 
--- src/sound.rt:123:9
 search-requires : tie.Need-search-requires
 search-requires c κs = search needs
 
--- src/sound.rt:125:26
 enum-known-found : tie.Need-enum-known-found
 enum-known-found c = search needs
 
--- src/sound.rt:126:27
 enum-known-found-2 : tie.Need-enum-known-found-2
 enum-known-found-2 c = search needs
 
--- src/sound.rt:120:1
 returns : tie.Need-returns
 returns c = search laws.open-sound
 
--- src/sound.rt:120:1
 returns-2 : tie.Need-returns-2
 returns-2 c = search laws.open-unsound
 

@@ -6,24 +6,18 @@ use Rattle.package.specs.Package.{sizeCheck}
 use borrow.Author.Needs.{needs}
 use Rattle.package.proofs.sound.size_check.Statement.{statement}
 use Rattle.package.proofs.sound.size_check.Tie as tie
-use Rattle.package.proofs.sound.size_check.Reads as reads
-use Rattle.package.proofs.sound.size_check.Lts as lts
 
--- src/sound.rt:32:9
 returns : tie.Need-returns
 unfolding sizeCheck
 returns c = stopped _ (omega (arith, tests))
 
--- src/sound.rt:35:33
 cast-t3 : tie.Need-cast-t3
 cast-t3 c = search needs
 
--- src/sound.rt:35:9
 returns-2 : tie.Need-returns-2
 unfolding sizeCheck
 returns-2 c = passed _ _ (omega (arith, tests)) (stopped _ (omega (arith, tests)))
 
--- src/sound.rt:28:1
 returns-3 : tie.Need-returns-3
 unfolding sizeCheck
 returns-3 c = passed _ _ (omega (arith, tests)) (passed _ _ (omega (arith, tests)) refl)

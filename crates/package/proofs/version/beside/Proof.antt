@@ -2,7 +2,6 @@
 use borrow.Author.Needs.{needs}
 use Prim.Native.Nat.{_≤_, _-_}
 use mathlib.Core.Path.{_≡_, refl}
-use native.Mathlib.Omega.{arith}
 use native.Mathlib.Nat.{sub-zero}
 use Rattle.be.specs.declared.Ending.the-variants.{Ends}
 use Rattle.be.specs.Strings.{stringsFrom}
@@ -10,13 +9,6 @@ use Rattle.package.specs.Version.{versionFrom}
 use Rattle.package.proofs.VersionLaws as laws
 use Rattle.package.proofs.version.beside.Statement.{statement}
 use Rattle.package.proofs.version.beside.Tie as tie
-use Rattle.package.proofs.version.beside.Reads as reads
-use Rattle.package.proofs.version.beside.Lts as lts
-use Rattle.be.proofs.part.Reads as part-reads
-use Rattle.be.proofs.same.Reads as same-reads
-use Rattle.be.proofs.strings_end.Reads as strings-end-reads
-use Rattle.package.proofs.lookup.element.Reads as element-reads
-use Rattle.structure.proofs.lookup.extent_to.Reads as extent-to-reads
 
 abbrev Inv-loop : tie.InvT-loop
 Inv-loop pkg name names versions at₀ k₀ at k = (k ≤ names .count)
@@ -26,60 +18,46 @@ Inv-loop pkg name names versions at₀ k₀ at k = (k ≤ names .count)
 abbrev μ-loop : tie.MeasureT-loop
 μ-loop pkg name names versions at₀ k₀ at k = names .count - k
 
--- src/version.rt:39:5
 loop-holds : tie.Need-loop-holds Inv-loop μ-loop
 unfolding stringsFrom
 loop-holds c = (search needs, refl, simp sub-zero)
 
--- src/version.rt:40:19
 add-end : tie.Need-add-end Inv-loop μ-loop
 add-end c = search needs
 
--- src/version.rt:41:13
 strings-end-requires : tie.Need-strings-end-requires Inv-loop μ-loop
 strings-end-requires c κs = search needs
 
--- src/version.rt:42:13
 extent-to-requires : tie.Need-extent-to-requires Inv-loop μ-loop
 extent-to-requires c κs = search needs
 
--- src/version.rt:43:38
 sub-part : tie.Need-sub-part Inv-loop μ-loop
 sub-part c = search laws.some
 
--- src/version.rt:43:13
 part-requires : tie.Need-part-requires Inv-loop μ-loop
 part-requires c κs = search needs
 
--- src/version.rt:44:12
 same-requires : tie.Need-same-requires Inv-loop μ-loop
 same-requires c κs = search needs
 
--- src/version.rt:45:33
 element-requires : tie.Need-element-requires Inv-loop μ-loop
 element-requires c κs = search needs
 
--- src/version.rt:45:13
 returns : tie.Need-returns Inv-loop μ-loop
 returns c = search laws.ends
 
--- src/version.rt:47:9
 add-at : tie.Need-add-at Inv-loop μ-loop
 add-at c = search laws.fits
 
--- src/version.rt:48:9
 add-k : tie.Need-add-k Inv-loop μ-loop
 add-k c = search needs
 
--- src/version.rt:39:5
 loop-less : tie.Need-loop-less Inv-loop μ-loop
 loop-less c = search needs
 
--- src/version.rt:39:5
 loop-again : tie.Need-loop-again Inv-loop μ-loop
 loop-again c = (search needs, search laws.turn-at, search laws.turn)
 
--- src/version.rt:33:1
 returns-2 : tie.Need-returns-2 Inv-loop μ-loop
 returns-2 c = search laws.spent
 

@@ -4,20 +4,13 @@ use Rattle.package.specs.Lookup.{soughtBytes}
 use borrow.Author.Needs.{needs}
 use Rattle.package.proofs.version.required_version.Statement.{statement}
 use Rattle.package.proofs.version.required_version.Tie as tie
-use Rattle.package.proofs.version.required_version.Reads as reads
-use Rattle.package.proofs.version.required_version.Lts as lts
-use Rattle.package.proofs.lookup.shown.Reads as shown-reads
-use Rattle.package.proofs.version.seek_version.Reads as seek-version-reads
 
--- src/version.rt:87:9
 seek-version-requires : tie.Need-seek-version-requires
 seek-version-requires c κs = search needs
 
--- src/version.rt:88:5
 shown-requires : tie.Need-shown-requires
 shown-requires c κs = search needs
 
--- src/version.rt:84:1
 returns : tie.Need-returns
 returns c = c .shown .ensures ∙ ap (soughtBytes _) (c .before .seek-version .ensures)
 

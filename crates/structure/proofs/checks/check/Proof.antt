@@ -3,36 +3,25 @@ use Rattle.structure.proofs.PassLaws as laws
 use borrow.Author.Needs.{needs}
 use Rattle.structure.proofs.checks.check.Statement.{statement}
 use Rattle.structure.proofs.checks.check.Tie as tie
-use Rattle.structure.proofs.checks.check.Reads as reads
-use Rattle.structure.proofs.checks.check.Lts as lts
-use Rattle.format.proofs.records.HeaderRecord.at.Reads as at-reads
-use Rattle.structure.proofs.checks.header_check.Reads as header-check-reads
-use Rattle.structure.proofs.checks.records_check.Reads as records-check-reads
 
--- src/checks.rt:82:9
 at-requires : tie.Need-at-requires
 at-requires c κs = search needs
 
--- src/checks.rt:83:9
 header-check-requires : tie.Need-header-check-requires
 header-check-requires c κs = search needs
 
--- src/checks.rt:84:26
 enum-known-v : tie.Need-enum-known-v
 enum-known-v c = search needs
 
--- src/checks.rt:85:9
 returns : tie.Need-returns
 returns c = search laws.refused
 
 enum-told : tie.Need-enum-told
 enum-told c = search needs
 
--- src/checks.rt:92:5
 records-check-requires : tie.Need-records-check-requires
 records-check-requires c κs = search laws.store-small
 
--- src/checks.rt:79:1
 returns-2 : tie.Need-returns-2
 returns-2 c = search laws.sound
 

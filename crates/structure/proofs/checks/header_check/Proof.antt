@@ -6,68 +6,52 @@ use mathlib.Core.Path.{refl}
 use borrow.Author.Needs.{needs}
 use Rattle.structure.proofs.checks.header_check.Statement.{statement}
 use Rattle.structure.proofs.checks.header_check.Tie as tie
-use Rattle.structure.proofs.checks.header_check.Reads as reads
-use Rattle.structure.proofs.checks.header_check.Lts as lts
-use Rattle.format.proofs.places.Section.end.Reads as end-reads
 
--- src/checks.rt:28:17
 add-first : tie.Need-add-first
 add-first c = search needs
 
--- src/checks.rt:30:9
 returns : tie.Need-returns
 unfolding headerCheck
 returns c = stopped _ (omega (arith, tests))
 
--- src/checks.rt:33:9
 returns-2 : tie.Need-returns-2
 unfolding headerCheck
 returns-2 c = passed _ _ (omega (arith, tests)) (stopped _ (omega (arith, tests)))
 
--- src/checks.rt:36:33
 add-t10 : tie.Need-add-t10
 add-t10 c = search needs
 
--- src/checks.rt:36:9
 returns-3 : tie.Need-returns-3
 unfolding headerCheck
 returns-3 c = passed _ _ (omega (arith, tests)) (passed _ _ (omega (arith, tests)) (stopped _ (omega (arith, tests))))
 
--- src/checks.rt:39:33
 add-t11 : tie.Need-add-t11
 add-t11 c = search needs
 
--- src/checks.rt:39:9
 returns-4 : tie.Need-returns-4
 unfolding headerCheck
 returns-4 c = passed _ _ (omega (arith, tests)) (passed _ _ (omega (arith, tests)) (passed _ _ (omega (arith, tests))
     (stopped _ (omega (arith, tests)))))
 
--- src/checks.rt:42:33
 add-t12 : tie.Need-add-t12
 add-t12 c = search needs
 
--- src/checks.rt:42:9
 returns-5 : tie.Need-returns-5
 unfolding headerCheck
 returns-5 c = passed _ _ (omega (arith, tests)) (passed _ _ (omega (arith, tests)) (passed _ _ (omega (arith, tests))
     (passed _ _ (omega (arith, tests)) (stopped _ (omega (arith, tests))))))
 
--- src/checks.rt:49:9
 end-requires : tie.Need-end-requires
 end-requires c κs = search needs
 
--- src/checks.rt:51:33
 add-t13 : tie.Need-add-t13
 add-t13 c = search needs
 
--- src/checks.rt:51:9
 returns-6 : tie.Need-returns-6
 unfolding headerCheck
 returns-6 c = passed _ _ (omega (arith, tests)) (passed _ _ (omega (arith, tests)) (passed _ _ (omega (arith, tests))
     (passed _ _ (omega (arith, tests)) (passed _ _ (omega (arith, tests)) (stopped _ (omega (arith, tests)))))))
 
--- src/checks.rt:24:1
 returns-7 : tie.Need-returns-7
 unfolding headerCheck
 returns-7 c = passed _ _ (omega (arith, tests)) (passed _ _ (omega (arith, tests)) (passed _ _ (omega (arith, tests))

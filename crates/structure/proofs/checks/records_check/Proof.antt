@@ -8,13 +8,6 @@ use Rattle.structure.specs.Lookup.{findFrom, orElse}
 use Rattle.structure.proofs.RecordsLaws as laws
 use Rattle.structure.proofs.checks.records_check.Statement.{statement}
 use Rattle.structure.proofs.checks.records_check.Tie as tie
-use Rattle.structure.proofs.checks.records_check.Reads as reads
-use Rattle.structure.proofs.checks.records_check.Lts as lts
-use Rattle.format.proofs.places.Section.index_record.Reads as index-record-reads
-use Rattle.format.proofs.records.IndexRecord.at.Reads as at-reads
-use Rattle.structure.proofs.entries.data_end.Reads as data-end-reads
-use Rattle.structure.proofs.entries.entry_check.Reads as entry-check-reads
-use Rattle.structure.proofs.lookup.note.Reads as note-reads
 
 abbrev Inv-loop : tie.InvT-loop
 Inv-loop s section tag ty n found₀ i₀ found i = (i ≤ n)
@@ -24,58 +17,45 @@ Inv-loop s section tag ty n found₀ i₀ found i = (i ≤ n)
 abbrev μ-loop : tie.MeasureT-loop
 μ-loop s section tag ty n found₀ i₀ found i = n - i
 
--- src/checks.rt:64:5
 loop-holds : tie.Need-loop-holds Inv-loop μ-loop
 loop-holds c = (search needs, simp sub-zero, simp sub-zero)
 
--- src/checks.rt:65:13
 index-record-requires : tie.Need-index-record-requires Inv-loop μ-loop
 index-record-requires c κs = search needs
 
--- src/checks.rt:66:13
 at-requires : tie.Need-at-requires Inv-loop μ-loop
 at-requires c κs = search needs
 
--- src/checks.rt:67:13
 data-end-requires : tie.Need-data-end-requires Inv-loop μ-loop
 data-end-requires c κs = search needs
 
--- src/checks.rt:68:44
 cast-entry-check : tie.Need-cast-entry-check Inv-loop μ-loop
 cast-entry-check c = search needs
 
--- src/checks.rt:68:13
 entry-check-requires : tie.Need-entry-check-requires Inv-loop μ-loop
 entry-check-requires c κs = search needs
 
--- src/checks.rt:69:30
 enum-known-v : tie.Need-enum-known-v Inv-loop μ-loop
 enum-known-v c = search needs
 
--- src/checks.rt:70:13
 returns : tie.Need-returns Inv-loop μ-loop
 returns c = search laws.ends
 
 enum-told : tie.Need-enum-told Inv-loop μ-loop
 enum-told c = search needs
 
--- src/checks.rt:72:9
 note-requires : tie.Need-note-requires Inv-loop μ-loop
 note-requires c κs = search needs
 
--- src/checks.rt:73:9
 add-i : tie.Need-add-i Inv-loop μ-loop
 add-i c = search needs
 
--- src/checks.rt:64:5
 loop-less : tie.Need-loop-less Inv-loop μ-loop
 loop-less c = search needs
 
--- src/checks.rt:64:5
 loop-again : tie.Need-loop-again Inv-loop μ-loop
 loop-again c = (search needs, search laws.turn-checked, search laws.turn-noted)
 
--- src/checks.rt:57:1
 returns-2 : tie.Need-returns-2 Inv-loop μ-loop
 returns-2 c = search laws.spent
 

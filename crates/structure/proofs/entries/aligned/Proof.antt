@@ -1,48 +1,36 @@
 use Rattle.structure.specs.declared.types.ElementSize.{ElementSize}
 -- By the element size, which is not 0. Assumes nothing.
-use mathlib.Core.Path.{sym, ap, _∙_}
+use mathlib.Core.Path.{sym, _∙_}
 use Rattle.structure.specs.Entries.{alignedTo}
 use Rattle.structure.proofs.TypeLaws.{bytes-small, by-case}
 use borrow.Author.Needs.{needs}
 use Rattle.structure.proofs.entries.aligned.Statement.{statement}
 use Rattle.structure.proofs.entries.aligned.Tie as tie
-use Rattle.structure.proofs.entries.aligned.Reads as reads
-use Rattle.structure.proofs.entries.aligned.Lts as lts
-use Rattle.structure.proofs.types.element_size.Reads as element-size-reads
 
--- src/entries.rt:40:9
 element-size-requires : tie.Need-element-size-requires
 element-size-requires c κs = search needs
 
--- src/entries.rt:42:28
 enum-known-size : tie.Need-enum-known-size
 enum-known-size c = search needs
 
--- src/entries.rt:42:34
 cast-result : tie.Need-cast-result
 cast-result c = search needs
 
--- src/entries.rt:42:34
 rem-result : tie.Need-rem-result
 rem-result c = bytes-small _ _ (sym (c .before .before .before .before .element-size .ensures) ∙ c .before .before .size .given .1) .0
 
--- src/entries.rt:43:32
 enum-told : tie.Need-enum-told
 enum-told c = search needs
 
--- src/entries.rt:44:34
 enum-told-2 : tie.Need-enum-told-2
 enum-told-2 c = search needs
 
--- src/entries.rt:37:1
 returns : tie.Need-returns
 returns c = by-case (λ (k : ElementSize). alignedTo k (c .before .before .before .before .before .args .e .offset .0)) _ (search) (c .before .before .size .given .1)
 
--- src/entries.rt:37:1
 returns-2 : tie.Need-returns-2
 returns-2 c = by-case (λ (k : ElementSize). alignedTo k (c .before .before .before .args .e .offset .0)) _ (search) (c .enum-told .given .1)
 
--- src/entries.rt:37:1
 returns-3 : tie.Need-returns-3
 returns-3 c = by-case (λ (k : ElementSize). alignedTo k (c .before .before .before .args .e .offset .0)) _ (search) (c .enum-told2 .given .1)
 

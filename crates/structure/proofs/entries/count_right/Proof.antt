@@ -2,18 +2,13 @@
 use Rattle.structure.proofs.EntryLaws as laws
 use Rattle.structure.proofs.entries.count_right.Statement.{statement}
 use Rattle.structure.proofs.entries.count_right.Tie as tie
-use Rattle.structure.proofs.entries.count_right.Reads as reads
-use Rattle.structure.proofs.entries.count_right.Lts as lts
 
--- src/entries.rt:28:9
 returns : tie.Need-returns
 returns c = search laws.count-six
 
--- src/entries.rt:31:9
 returns-2 : tie.Need-returns-2
 returns-2 c = search laws.count-nine
 
--- src/entries.rt:24:1
 returns-3 : tie.Need-returns-3
 returns-3 c = search laws.count-any
 

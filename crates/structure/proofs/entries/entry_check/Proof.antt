@@ -4,60 +4,42 @@ use Rattle.structure.specs.Entries.{entryCheck}
 use borrow.Author.Needs.{needs}
 use Rattle.structure.proofs.entries.entry_check.Statement.{statement}
 use Rattle.structure.proofs.entries.entry_check.Tie as tie
-use Rattle.structure.proofs.entries.entry_check.Reads as reads
-use Rattle.structure.proofs.entries.entry_check.Lts as lts
-use Rattle.be.proofs.ended.Reads as ended-reads
-use Rattle.structure.proofs.entries.aligned.Reads as aligned-reads
-use Rattle.structure.proofs.entries.count_right.Reads as count-right-reads
-use Rattle.structure.proofs.entries.tag_before.Reads as tag-before-reads
-use Rattle.structure.proofs.entries.type_lawful.Reads as type-lawful-reads
 
--- src/entries.rt:97:9
 type-lawful-requires : tie.Need-type-lawful-requires
 type-lawful-requires c κs = search needs
 
--- src/entries.rt:98:9
 returns : tie.Need-returns
 unfolding entryCheck
 returns c = search (passed, stopped, answers) depth 14
 
--- src/entries.rt:100:9
 count-right-requires : tie.Need-count-right-requires
 count-right-requires c κs = search needs
 
--- src/entries.rt:101:9
 returns-2 : tie.Need-returns-2
 unfolding entryCheck
 returns-2 c = search (passed, stopped, answers) depth 14
 
--- src/entries.rt:103:9
 aligned-requires : tie.Need-aligned-requires
 aligned-requires c κs = search needs
 
--- src/entries.rt:104:9
 returns-3 : tie.Need-returns-3
 unfolding entryCheck
 returns-3 c = search (passed, stopped, answers) depth 14
 
--- src/entries.rt:106:9
 ended-requires : tie.Need-ended-requires
 ended-requires c κs = search needs
 
--- src/entries.rt:107:9
 returns-4 : tie.Need-returns-4
 unfolding entryCheck
 returns-4 c = search (passed, stopped, answers) depth 14
 
--- src/entries.rt:109:8
 tag-before-requires : tie.Need-tag-before-requires
 tag-before-requires c κs = search needs
 
--- src/entries.rt:110:9
 returns-5 : tie.Need-returns-5
 unfolding entryCheck
 returns-5 c = search (passed, stopped, answers) depth 14
 
--- src/entries.rt:87:1
 returns-6 : tie.Need-returns-6
 unfolding entryCheck
 returns-6 c = search (passed, stopped, answers) depth 14

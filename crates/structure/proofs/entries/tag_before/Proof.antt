@@ -5,10 +5,6 @@ use Rattle.structure.specs.Entries.{tagBefore}
 use Rattle.structure.proofs.EntryLaws as laws
 use Rattle.structure.proofs.entries.tag_before.Statement.{statement}
 use Rattle.structure.proofs.entries.tag_before.Tie as tie
-use Rattle.structure.proofs.entries.tag_before.Reads as reads
-use Rattle.structure.proofs.entries.tag_before.Lts as lts
-use Rattle.be.proofs.be32.Reads as be32-reads
-use Rattle.format.proofs.places.Section.index_record.Reads as index-record-reads
 
 abbrev Inv-loop : tie.InvT-loop
 Inv-loop s section i tag k₀ k = tagBefore s section i tag ≡ tagBefore s section k tag
@@ -16,35 +12,27 @@ Inv-loop s section i tag k₀ k = tagBefore s section i tag ≡ tagBefore s sect
 abbrev μ-loop : tie.MeasureT-loop
 μ-loop s section i tag k₀ k = k
 
--- src/entries.rt:76:5
 loop-holds : tie.Need-loop-holds Inv-loop μ-loop
 loop-holds c = search needs
 
--- src/entries.rt:77:9
 sub-k : tie.Need-sub-k Inv-loop μ-loop
 sub-k c = search needs
 
--- src/entries.rt:78:13
 index-record-requires : tie.Need-index-record-requires Inv-loop μ-loop
 index-record-requires c κs = search needs
 
--- src/entries.rt:79:12
 be32-requires : tie.Need-be32-requires Inv-loop μ-loop
 be32-requires c κs = search needs
 
--- src/entries.rt:80:13
 returns : tie.Need-returns Inv-loop μ-loop
 returns c = search laws.ends
 
--- src/entries.rt:76:5
 loop-less : tie.Need-loop-less Inv-loop μ-loop
 loop-less c = search needs
 
--- src/entries.rt:76:5
 loop-again : tie.Need-loop-again Inv-loop μ-loop
 loop-again c = search laws.turn
 
--- src/entries.rt:72:1
 returns-2 : tie.Need-returns-2 Inv-loop μ-loop
 returns-2 c = search laws.spent
 

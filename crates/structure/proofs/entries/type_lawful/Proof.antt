@@ -4,35 +4,25 @@ use Rattle.structure.proofs.TypeLaws.{by-case}
 use borrow.Author.Needs.{needs}
 use Rattle.structure.proofs.entries.type_lawful.Statement.{statement}
 use Rattle.structure.proofs.entries.type_lawful.Tie as tie
-use Rattle.structure.proofs.entries.type_lawful.Reads as reads
-use Rattle.structure.proofs.entries.type_lawful.Lts as lts
-use Rattle.structure.proofs.types.element_size.Reads as element-size-reads
 
--- src/entries.rt:15:9
 element-size-requires : tie.Need-element-size-requires
 element-size-requires c κs = search needs
 
--- src/entries.rt:17:34
 enum-told : tie.Need-enum-told
 enum-told c = search needs
 
--- src/entries.rt:18:32
 enum-told-2 : tie.Need-enum-told-2
 enum-told-2 c = search needs
 
--- src/entries.rt:19:34
 enum-told-3 : tie.Need-enum-told-3
 enum-told-3 c = search needs
 
--- src/entries.rt:12:1
 returns : tie.Need-returns
 returns c = by-case isLawful _ (search) (c .enum-told .given .1)
 
--- src/entries.rt:12:1
 returns-2 : tie.Need-returns-2
 returns-2 c = by-case isLawful _ (search) (c .enum-told2 .given .1)
 
--- src/entries.rt:12:1
 returns-3 : tie.Need-returns-3
 returns-3 c = by-case isLawful _ (search) (c .enum-told3 .given .1)
 

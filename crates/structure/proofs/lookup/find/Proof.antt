@@ -7,13 +7,6 @@ use Rattle.structure.specs.Lookup.{findFrom}
 use Rattle.structure.proofs.LookupLaws as laws
 use Rattle.structure.proofs.lookup.find.Statement.{statement}
 use Rattle.structure.proofs.lookup.find.Tie as tie
-use Rattle.structure.proofs.lookup.find.Reads as reads
-use Rattle.structure.proofs.lookup.find.Lts as lts
-use Rattle.format.proofs.places.Section.index_record.Reads as index-record-reads
-use Rattle.format.proofs.records.IndexRecord.at.Reads as at-reads
-use Rattle.structure.proofs.entries.data_end.Reads as data-end-reads
-use Rattle.structure.proofs.lookup.entry_of.Reads as entry-of-reads
-use Rattle.structure.proofs.lookup.is_for.Reads as is-for-reads
 
 abbrev Inv-loop : tie.InvT-loop
 Inv-loop s section tag ty n i₀ i = (i ≤ n) × (findFrom s section n 0 tag ty ≡ findFrom s section (n - i) i tag ty)
@@ -21,47 +14,36 @@ Inv-loop s section tag ty n i₀ i = (i ≤ n) × (findFrom s section n 0 tag ty
 abbrev μ-loop : tie.MeasureT-loop
 μ-loop s section tag ty n i₀ i = n - i
 
--- src/lookup.rt:77:5
 loop-holds : tie.Need-loop-holds Inv-loop μ-loop
 loop-holds c = (search needs, simp sub-zero)
 
--- src/lookup.rt:78:13
 index-record-requires : tie.Need-index-record-requires Inv-loop μ-loop
 index-record-requires c κs = search needs
 
--- src/lookup.rt:79:13
 at-requires : tie.Need-at-requires Inv-loop μ-loop
 at-requires c κs = search needs
 
--- src/lookup.rt:80:12
 is-for-requires : tie.Need-is-for-requires Inv-loop μ-loop
 is-for-requires c κs = search needs
 
--- src/lookup.rt:81:17
 data-end-requires : tie.Need-data-end-requires Inv-loop μ-loop
 data-end-requires c κs = search needs
 
--- src/lookup.rt:82:30
 entry-of-requires : tie.Need-entry-of-requires Inv-loop μ-loop
 entry-of-requires c κs = search needs
 
--- src/lookup.rt:82:13
 returns : tie.Need-returns Inv-loop μ-loop
 returns c = search laws.ends
 
--- src/lookup.rt:84:9
 add-i : tie.Need-add-i Inv-loop μ-loop
 add-i c = search needs
 
--- src/lookup.rt:77:5
 loop-less : tie.Need-loop-less Inv-loop μ-loop
 loop-less c = search needs
 
--- src/lookup.rt:77:5
 loop-again : tie.Need-loop-again Inv-loop μ-loop
 loop-again c = (search needs, search laws.turn)
 
--- src/lookup.rt:72:1
 returns-2 : tie.Need-returns-2 Inv-loop μ-loop
 returns-2 c = search laws.spent
 

@@ -3,50 +3,39 @@ use borrow.Author.Tests.{ne-eqb}
 use Rattle.structure.specs.Types.{elementSize}
 use Rattle.structure.proofs.types.element_size.Statement.{statement}
 use Rattle.structure.proofs.types.element_size.Tie as tie
-use Rattle.structure.proofs.types.element_size.Reads as reads
-use Rattle.structure.proofs.types.element_size.Lts as lts
 
--- src/types.rt:13:1
 returns : tie.Need-returns
 unfolding elementSize
 returns c = rw (c .match .keys1)
 
--- src/types.rt:13:1
 returns-2 : tie.Need-returns-2
 unfolding elementSize
 returns-2 c = rw (c .match .keys2)
 
--- src/types.rt:13:1
 returns-3 : tie.Need-returns-3
 unfolding elementSize
 returns-3 c = rw (c .match .keys3)
 
--- src/types.rt:13:1
 returns-4 : tie.Need-returns-4
 unfolding elementSize
 returns-4 c = rw (c .match .keys4)
 
--- src/types.rt:13:1
 returns-5 : tie.Need-returns-5
 unfolding elementSize
 returns-5 c = rw (c .match .keys5)
 
--- src/types.rt:13:1
 returns-6 : tie.Need-returns-6
 unfolding elementSize
 returns-6 c = rw (c .match .keys6)
 
--- src/types.rt:13:1
 returns-7 : tie.Need-returns-7
 unfolding elementSize
 returns-7 c = rw (c .match .keys7)
 
--- src/types.rt:13:1
 returns-8 : tie.Need-returns-8
 unfolding elementSize
 returns-8 c = rw (c .match .keys8)
 
--- src/types.rt:13:1
 returns-9 : tie.Need-returns-9
 unfolding elementSize
 returns-9 c = let t = c .before .args .ty in

@@ -3,47 +3,34 @@ use Rattle.format.proofs.RecordLaws as laws
 use borrow.Author.Needs.{needs}
 use Rattle.format.proofs.records.HeaderRecord.at.Statement.{statement}
 use Rattle.format.proofs.records.HeaderRecord.at.Tie as tie
-use Rattle.format.proofs.records.HeaderRecord.at.Reads as reads
-use Rattle.format.proofs.records.HeaderRecord.at.Lts as lts
-use Rattle.be.proofs.be32.Reads as be32-reads
 
--- src/records.rt:34:13
 returns : tie.Need-returns
 returns c = search laws.header-past
 
--- src/records.rt:42:34
 add-be32 : tie.Need-add-be32
 add-be32 c = search needs
 
--- src/records.rt:42:20
 be32-requires : tie.Need-be32-requires
 be32-requires c κs = search needs
 
--- src/records.rt:43:37
 add-be32-2 : tie.Need-add-be32-2
 add-be32-2 c = search needs
 
--- src/records.rt:43:23
 be32-requires-2 : tie.Need-be32-requires-2
 be32-requires-2 c κs = search needs
 
--- src/records.rt:44:35
 add-be32-3 : tie.Need-add-be32-3
 add-be32-3 c = search needs
 
--- src/records.rt:44:21
 be32-requires-3 : tie.Need-be32-requires-3
 be32-requires-3 c κs = search needs
 
--- src/records.rt:45:34
 add-be32-4 : tie.Need-add-be32-4
 add-be32-4 c = search needs
 
--- src/records.rt:45:20
 be32-requires-4 : tie.Need-be32-requires-4
 be32-requires-4 c κs = search needs
 
--- src/records.rt:29:5
 returns-2 : tie.Need-returns-2
 returns-2 c = search laws.header-read
 

@@ -3,47 +3,34 @@ use Rattle.format.proofs.RecordLaws as laws
 use borrow.Author.Needs.{needs}
 use Rattle.format.proofs.records.IndexRecord.at.Statement.{statement}
 use Rattle.format.proofs.records.IndexRecord.at.Tie as tie
-use Rattle.format.proofs.records.IndexRecord.at.Reads as reads
-use Rattle.format.proofs.records.IndexRecord.at.Lts as lts
-use Rattle.be.proofs.be32.Reads as be32-reads
 
--- src/records.rt:75:13
 returns : tie.Need-returns
 returns c = search laws.index-past
 
--- src/records.rt:83:32
 add-be32 : tie.Need-add-be32
 add-be32 c = search needs
 
--- src/records.rt:83:18
 be32-requires : tie.Need-be32-requires
 be32-requires c κs = search needs
 
--- src/records.rt:84:31
 add-be32-2 : tie.Need-add-be32-2
 add-be32-2 c = search needs
 
--- src/records.rt:84:17
 be32-requires-2 : tie.Need-be32-requires-2
 be32-requires-2 c κs = search needs
 
--- src/records.rt:85:47
 add-be32-3 : tie.Need-add-be32-3
 add-be32-3 c = search needs
 
--- src/records.rt:85:33
 be32-requires-3 : tie.Need-be32-requires-3
 be32-requires-3 c κs = search needs
 
--- src/records.rt:86:34
 add-be32-4 : tie.Need-add-be32-4
 add-be32-4 c = search needs
 
--- src/records.rt:86:20
 be32-requires-4 : tie.Need-be32-requires-4
 be32-requires-4 c κs = search needs
 
--- src/records.rt:70:5
 returns-2 : tie.Need-returns-2
 returns-2 c = search laws.index-read
 

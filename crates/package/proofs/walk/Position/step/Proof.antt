@@ -3,45 +3,31 @@ use Rattle.package.proofs.StepLaws as laws
 use borrow.Author.Needs.{needs}
 use Rattle.package.proofs.walk.Position.step.Statement.{statement}
 use Rattle.package.proofs.walk.Position.step.Tie as tie
-use Rattle.package.proofs.walk.Position.step.Reads as reads
-use Rattle.package.proofs.walk.Position.step.Lts as lts
-use Rattle.package.proofs.sound.open.Reads as open-reads
-use Rattle.package.proofs.walk.refused.Reads as refused-reads
-use Rattle.package.proofs.walk.step_in.Reads as step-in-reads
 
--- src/walk.rt:72:13
 open-requires : tie.Need-open-requires
 open-requires c κs = search needs
 
--- src/walk.rt:74:29
 enum-known-found : tie.Need-enum-known-found
 enum-known-found c = search needs
 
--- src/walk.rt:74:47
 refused-requires : tie.Need-refused-requires
 refused-requires c κs = search needs
 
--- src/walk.rt:75:27
 enum-known-found-2 : tie.Need-enum-known-found-2
 enum-known-found-2 c = search needs
 
--- src/walk.rt:77:21
 step-in-requires : tie.Need-step-in-requires
 step-in-requires c κs = search laws.signature-bounded
 
--- src/walk.rt:79:21
 step-in-requires-2 : tie.Need-step-in-requires-2
 step-in-requires-2 c κs = search laws.header-bounded
 
--- src/walk.rt:69:5
 returns : tie.Need-returns
 returns c = search laws.step-refused
 
--- src/walk.rt:69:5
 returns-2 : tie.Need-returns-2
 returns-2 c = search laws.step-signature
 
--- src/walk.rt:69:5
 returns-3 : tie.Need-returns-3
 returns-3 c = search laws.step-header
 
