@@ -1,9 +1,10 @@
--- Bytes and parts at the end of a list: be16-past, be32-past, part-past, part-tail, part-inside.
+-- Bytes and parts at the end of a list: be16-past, be32-past, part-past, part-tail, part-inside. Parts: part-join,
+-- length-part.
 use Prim.Native.Nat.{ℕ, _+_, _-_, _≤_, _<_}
 use mathlib.Core.Path.{_≡_, sym, _∙_}
-use mathlib.Core.List.{List, []}
-use lib.ListN.{length, getD, take, drop, length-drop, List·getD-eq-default, drop-of-length-le}
-use lib.Seq.{take-nil, take-all}
+use mathlib.Core.List.{List, [], _++_}
+use lib.ListN.{length, getD, take, drop, length-take, length-drop, List·getD-eq-default, drop-of-length-le}
+use lib.Seq.{take-nil, take-all, take-add, drop-drop}
 use native.Mathlib.Omega.{arith}
 use Rattle.be.specs.Numbers.{be16At, be32At}
 
@@ -29,3 +30,12 @@ part-tail s from extent h =
 
 pub part-inside : (s : List ℕ) (from extent : ℕ) → take (from + extent - from) (drop from s) ≡ take extent (drop from s)
 part-inside s from extent = let e : from + extent - from ≡ extent = omega arith in rw e
+
+-- a part and the part behind it
+pub part-join : (s : List ℕ) (from a b : ℕ)
+    → take a (drop from s) ++ take b (drop (from + a) s) ≡ take (a + b) (drop from s)
+part-join s from a b = rw (take-add a b (drop from s), drop-drop a from s)
+
+pub length-part : (s : List ℕ) (from extent : ℕ) → from + extent ≤ length s
+    → length (take extent (drop from s)) ≡ extent
+length-part s from extent h = simp (length-take, length-drop) (omega arith)

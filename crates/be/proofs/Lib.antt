@@ -2,3 +2,4 @@ pub mod ByteLaws
 pub mod SameLaws
 pub mod Choice
 pub mod StringLaws
+pub mod RowLaws

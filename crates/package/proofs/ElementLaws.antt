@@ -1,116 +1,123 @@
--- Elements of an entry, for each way through the functions that make them; where they start.
-use Prim.Native.Nat.{ℕ, _+_, _-_, _*_, _≤_, _<_}
-use mathlib.Core.Path.{_≡_, refl, sym, _∙_}
+-- The elements of an entry lie in a row and are its data, theorems of specs/Theorems: elements-in-a-row,
+-- elements-shown. Where one of a fixed size lies: fixed-starts, fixed-extent.
+use Prim.Native.Nat.{ℕ, zero, suc, _+_, _-_, _*_, _≤_, _<_}
+use mathlib.Core.Path.{_≡_, refl, sym, ap, _∙_}
 use mathlib.Core.List.{List}
-use mathlib.Core.Bool.{Bool, true, false, cond}
-use lib.ListN.{length}
-use lib.Dec.{ltb}
+use lib.ListN.{take, drop}
 use native.Mathlib.Omega.{arith}
-use native.Mathlib.Nat.{mul-le-mul-left}
-use borrow.Author.Tests.{lt-ltb, le-ltb, ltb-true}
-use Rattle.be.specs.declared.Ending.{Ending}
-use Rattle.be.specs.declared.Ending.the-variants.{Ends, Open}
+use native.Mathlib.Nat.{mul-add}
+use Rattle.be.specs.declared.Ending.the-variants.{Ends}
 use Rattle.be.specs.Strings.{stringsFrom}
-use Rattle.be.proofs.StringLaws.{bound}
+use Rattle.be.proofs.StringLaws.{bound, done}
+use Rattle.be.proofs.ByteLaws.{part-join}
+use Rattle.be.proofs.RowLaws.{string-at}
+use Rattle.format.specs.Places.{sectionEnd}
 use Rattle.structure.specs.declared.types.ElementSize.{ElementSize}
 use Rattle.structure.specs.declared.types.ElementSize.the-variants.{Bytes, ToZero, Unlawful}
 use Rattle.structure.specs.declared.lookup.Entry.{Entry}
 use Rattle.structure.specs.Types.{elementSize}
-use Rattle.structure.specs.Lookup.{extentTo}
+use Rattle.structure.specs.Lookup.{extentTo, entryAt}
 use Rattle.structure.specs.Sound.{SoundEntry}
-use Rattle.package.specs.declared.lookup.Sought.{Sought}
-use Rattle.package.specs.declared.lookup.Sought.the-variants.{Here, Refused}
-use Rattle.package.specs.Lookup.{sought, stringPart, elementFor, elementOf, elementAs, soughtElement}
-use Rattle.package.proofs.SeekLaws.{sought-sound}
+use Rattle.package.specs.declared.lookup.Sought.the-variants.{Here}
+use Rattle.package.specs.Package.{structureOf}
+use Rattle.package.specs.Lookup.{sought, entryBytes, soughtBytes, elementOf}
+use Rattle.package.specs.Theorems.{elementsFrom, ElementsInARow, elementsShown, ElementsShown}
+use Rattle.package.proofs.FoundLaws.{found-of-record, found-sound}
+use Rattle.package.proofs.ElementFound.{element-found}
 
--- a single string, by where the run before it ended
-module _ (s : List ℕ) (entry : Entry) {run : Ending} where
-  pub part-ends : {from n : ℕ} {next : Ending} → run ≡ Ends from
-      → next ≡ stringsFrom s (entry .at .0 + entry .extent - from) from 1 → n ≡ extentTo from next
-      → _≡_ {A = Entry} (record { ty = entry .ty; count = 1; at = record { 0 = from }; extent = n }) (stringPart s entry run)
-  part-ends h p q = rw (h, q, p)
+-- where element k lies from b k to b (k + 1), the elements from k on are the part up to the last
+module _ (s : List ℕ) (entry : Entry) (b : ℕ → ℕ)
+    (starts : (k : ℕ) → k < entry .count → elementOf s entry k .at .0 ≡ b k)
+    (ends : (k : ℕ) → k < entry .count → b k + elementOf s entry k .extent ≡ b (k + 1)) where
+  rises : (n k : ℕ) → n + k ≡ entry .count → b k ≤ b (entry .count)
+  rises zero k e = let f : k ≡ entry .count = omega arith in rw f (omega arith)
+  rises (suc n) k e = let q = rises n (k + 1) (omega arith) in omega (arith, ends k (omega arith))
 
-  pub part-open : run ≡ Open
-      → _≡_ {A = Entry} (record { ty = entry .ty; count = 1; at = entry .at; extent = 0 }) (stringPart s entry run)
-  part-open h = rw h
+  row : (n k : ℕ) → n + k ≡ entry .count → elementsFrom s entry n k ≡ take (b (entry .count) - b k) (drop (b k) s)
+  unfolding elementsFrom
+  row zero k e =
+      let f : k ≡ entry .count = omega arith in
+      let g : b (entry .count) - b (entry .count) ≡ 0 = omega arith in
+      rw (f, g)
+  row (suc n) k e =
+      let l : k < entry .count = omega arith in
+      let x = elementOf s entry k .extent in
+      let q = rises n (k + 1) (omega arith) in
+      let y = b (entry .count) - (b k + x) in
+      let g : b (entry .count) - b k ≡ x + y = omega (arith, ends k l) in
+      rw (row n (k + 1) (omega arith), starts k l, ← ends k l, g) (part-join s (b k) x y)
 
--- an element, by the element size that was found
-module _ (s : List ℕ) (entry : Entry) (k : ℕ) {size : ElementSize} (p : size ≡ elementSize (entry .ty)) where
-  pub element-fixed : {n : ℕ} → size ≡ Bytes n
-      → _≡_ {A = Entry} (record { ty = entry .ty; count = 1; at = record { 0 = entry .at .0 + n * k }; extent = n }) (elementOf s entry k)
+  whole : b 0 ≡ entry .at .0 → b (entry .count) ≡ entry .at .0 + entry .extent
+      → elementsFrom s entry (entry .count) 0 ≡ entryBytes s entry
+  whole p q =
+      let e : b (entry .count) - b 0 ≡ entry .extent = omega arith in
+      row (entry .count) 0 (omega arith) ∙ rw (e, p)
+
+-- a fixed size
+module _ (s : List ℕ) (entry : Entry) (n : ℕ) (p : elementSize (entry .ty) ≡ Bytes n) where
+  pub fixed-starts : (k : ℕ) → elementOf s entry k .at .0 ≡ entry .at .0 + n * k
   unfolding elementOf
-  element-fixed h = rw (← p, h)
+  fixed-starts k = rw p
 
-  pub element-string : {run : Ending} {r : Entry} {end : ℕ} → size ≡ ToZero → end ≡ entry .at .0 + entry .extent
-      → run ≡ stringsFrom s (end - entry .at .0) (entry .at .0) k → r ≡ stringPart s entry run → r ≡ elementOf s entry k
+  pub fixed-extent : (k : ℕ) → elementOf s entry k .extent ≡ n
   unfolding elementOf
-  element-string {end = end} h e q j =
-      let m : end - entry .at .0 ≡ entry .extent = omega arith in
-      rw (← p, h) (rw (q, m) at j)
+  fixed-extent k = rw p
 
-  pub element-unlawful : size ≡ Unlawful
-      → _≡_ {A = Entry} (record { ty = entry .ty; count = 1; at = entry .at; extent = 0 }) (elementOf s entry k)
+  fixed-row : entry .extent ≡ n * entry .count → elementsFrom s entry (entry .count) 0 ≡ entryBytes s entry
+  fixed-row h =
+      whole s entry (λ k. entry .at .0 + n * k) (λ k l. fixed-starts k)
+      (λ k l. omega (arith, mul-add n k 1, fixed-extent k)) (omega arith) (omega arith)
+
+-- strings
+module _ (s : List ℕ) (entry : Entry) (p : elementSize (entry .ty) ≡ ToZero)
+    (h : stringsFrom s (entry .extent) (entry .at .0) (entry .count) ≡ Ends (entry .at .0 + entry .extent)) where
+  string-starts : (k : ℕ) → k < entry .count
+      → elementOf s entry k .at .0 ≡ extentTo 0 (stringsFrom s (entry .extent) (entry .at .0) k)
   unfolding elementOf
-  element-unlawful h = rw (← p, h)
+  string-starts k l =
+      let t = string-at s (entry .extent) (entry .at .0) k (entry .count) _ l h in
+      rw (p, t .2) (omega arith)
 
--- an element of a sound entry starts in the entry's data
-module _ (s : List ℕ) (len : ℕ) (entry : Entry) (sound : SoundEntry s len entry) (k : ℕ) (l : k < entry .count) where
-  from-run : (run : Ending) → stringsFrom s (entry .extent) (entry .at .0) k ≡ run
-      → stringPart s entry run .at .0 ≤ entry .at .0 + entry .extent
-  from-run (Ends from) h = let b = bound s (entry .extent) (entry .at .0) k from h in b .1
-  from-run Open h = omega arith
-
-  starts : (size : ElementSize) → elementSize (entry .ty) ≡ size
-      → elementFor size s entry k .at .0 ≤ entry .at .0 + entry .extent
-  starts (Bytes n) h =
-      let e = sound .fixed n h in
-      let m : k ≤ entry .count = omega arith in
-      let g : n * k ≤ n * entry .count = mul-le-mul-left n m in
-      omega arith
-  starts ToZero h = from-run (stringsFrom s (entry .extent) (entry .at .0) k) refl
-  starts Unlawful h = omega arith
-
-  pub element-starts : elementOf s entry k .at .0 ≤ entry .at .0 + entry .extent
+  string-ends : (k : ℕ) → k < entry .count
+      → extentTo 0 (stringsFrom s (entry .extent) (entry .at .0) k) + elementOf s entry k .extent
+      ≡ extentTo 0 (stringsFrom s (entry .extent) (entry .at .0) (k + 1))
   unfolding elementOf
-  element-starts = starts (elementSize (entry .ty)) refl
+  string-ends k l =
+      let t = string-at s (entry .extent) (entry .at .0) k (entry .count) _ l h in
+      let q = bound _ _ _ _ _ (t .4) in
+      rw (p, t .2, t .3, t .4) (omega arith)
 
--- in the shape of what is known where an element look-up returns: r is what was sought
-module _ (s : List ℕ) (which tag ty k : ℕ) {r : Sought} (p : r ≡ sought s which tag ty) where
-  pub seek-refused : {number place : ℕ} → r ≡ Refused number place → Refused number place ≡ soughtElement s which tag ty k
-  unfolding soughtElement
-  seek-refused h = rw (sym p ∙ h)
+  string-row : elementsFrom s entry (entry .count) 0 ≡ entryBytes s entry
+  string-row =
+      whole s entry (λ k. extentTo 0 (stringsFrom s (entry .extent) (entry .at .0) k)) string-starts string-ends
+      (rw (← done s (entry .extent) (entry .at .0) 0 refl) (omega arith)) (rw h (omega arith))
 
-  pub seek-bounded : {entry : Entry} → r ≡ Here entry → entry .at .0 + entry .extent ≤ 65536
-  seek-bounded {entry} h =
-      let b = sought-sound s which tag ty entry (sym p ∙ h) in
-      let i = b .0 .inside in
-      omega arith
+-- every lawful type
+row-of-size : (s : List ℕ) (len : ℕ) (entry : Entry) → SoundEntry s len entry
+    → (size : ElementSize) → elementSize (entry .ty) ≡ size
+    → elementsFrom s entry (entry .count) 0 ≡ entryBytes s entry
+row-of-size s len entry t (Bytes n) p = fixed-row s entry n p (t .fixed n p)
+row-of-size s len entry t ToZero p = string-row s entry p (t .strings p)
+row-of-size s len entry t Unlawful p =
+    let q = t .lawful in
+    let z : _≡_ {A = ℕ} 0 1 = cc in
+    absurd (omega arith)
 
-  pub seek-element : {entry e : Entry} → r ≡ Here entry → k < entry .count → e ≡ elementOf s entry k
-      → Here e ≡ soughtElement s which tag ty k
-  unfolding soughtElement
-  seek-element {entry} h l q = rw (sym p ∙ h, lt-ltb k (entry .count) l, q)
+pub elements-in-a-row : ElementsInARow
+elements-in-a-row s which tag ty entry h =
+    row-of-size s (sectionEnd (structureOf s which)) entry (found-sound s which tag ty entry h)
+    (elementSize (entry .ty)) refl
 
-  pub seek-past : {entry : Entry} → r ≡ Here entry → entry .count ≤ k → Refused 26 0 ≡ soughtElement s which tag ty k
-  unfolding soughtElement
-  seek-past {entry} h l = rw (sym p ∙ h, le-ltb k (entry .count) l)
+-- what element look-ups show of an entry that was found
+module _ (s : List ℕ) (which tag ty : ℕ) (entry : Entry) (h : sought s which tag ty ≡ Here entry) where
+  shown-row : (n k : ℕ) → n + k ≤ entry .count → elementsShown s which tag ty n k ≡ elementsFrom s entry n k
+  unfolding elementsShown elementsFrom
+  shown-row zero k l = refl
+  shown-row (suc n) k l = rw (element-found s which tag ty k entry h (omega arith), shown-row n (k + 1) (omega arith))
 
--- an element that was sought starts at a 32-bit place
-as-small : (s : List ℕ) (which tag ty k : ℕ) (r : Sought) → sought s which tag ty ≡ r → (e : Entry) → elementAs s k r ≡ Here e
-    → e .at .0 < 4294967296
-as-small s which tag ty k (Here entry) h e q = go (ltb k (entry .count)) refl q
-  where
-    go : (b : Bool) → ltb k (entry .count) ≡ b → cond b (Here (elementOf s entry k)) (Refused 26 0) ≡ Here e → e .at .0 < 4294967296
-    go true t j =
-        let w : elementOf s entry k ≡ e = cc in
-        let b = sought-sound s which tag ty entry h in
-        let i = b .0 .inside in
-        let m = element-starts s (length s) entry (b .0) k (ltb-true k (entry .count) t) in
-        rw (← w) (omega arith)
-    go false t j = let z : _≡_ {A = ℕ} 0 1 = cc in omega arith
-as-small s which tag ty k (Refused number place) h e q = let z : _≡_ {A = ℕ} 0 1 = cc in omega arith
-
-pub element-small : (s : List ℕ) (which tag ty k : ℕ) {found : Sought} → found ≡ soughtElement s which tag ty k → (e : Entry)
-    → found ≡ Here e → e .at .0 < 4294967296
-unfolding soughtElement
-element-small s which tag ty k p e h = as-small s which tag ty k (sought s which tag ty) refl e (sym p ∙ h)
+pub elements-shown : ElementsShown
+elements-shown s which tag ty k h r =
+    let entry = entryAt s (structureOf s which) k in
+    let f = found-of-record s which tag ty h k r in
+    shown-row s which tag ty entry f (entry .count) 0 (omega arith) ∙ elements-in-a-row s which tag ty entry f
+    ∙ sym (ap (soughtBytes s) f)

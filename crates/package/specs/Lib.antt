@@ -3,3 +3,4 @@ pub mod Package
 pub mod Lookup
 pub mod Version
 pub mod Walk
+pub mod Theorems

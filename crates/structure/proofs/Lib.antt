@@ -4,3 +4,5 @@ pub mod LookupLaws
 pub mod RecordsLaws
 pub mod PassLaws
 pub mod SoundLaws
+pub mod NumberLaws
+pub mod TagLaws

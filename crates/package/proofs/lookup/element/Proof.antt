@@ -1,7 +1,7 @@
 -- By the element size. Assumes nothing.
 use native.Mathlib.Omega.{arith}
 use Rattle.structure.proofs.EntryLaws.{product}
-use Rattle.package.proofs.ElementLaws as laws
+use Rattle.package.proofs.PartLaws as laws
 use borrow.Author.Needs.{needs}
 use Rattle.package.proofs.lookup.element.Statement.{statement}
 use Rattle.package.proofs.lookup.element.Tie as tie

@@ -1,7 +1,7 @@
 -- Number and place of what was sought, which starts in the package. Assumes nothing.
 use mathlib.Core.Path.{ap, _∙_}
 use Rattle.package.specs.Lookup.{soughtAnswer}
-use Rattle.package.proofs.ElementLaws as laws
+use Rattle.package.proofs.PartLaws as laws
 use borrow.Author.Needs.{needs}
 use Rattle.package.proofs.lookup.find_element_answer.Statement.{statement}
 use Rattle.package.proofs.lookup.find_element_answer.Tie as tie

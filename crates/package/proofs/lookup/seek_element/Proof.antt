@@ -1,5 +1,5 @@
 -- By the case of the look-up. Assumes nothing.
-use Rattle.package.proofs.ElementLaws as laws
+use Rattle.package.proofs.PartLaws as laws
 use borrow.Author.Needs.{needs}
 use Rattle.package.proofs.lookup.seek_element.Statement.{statement}
 use Rattle.package.proofs.lookup.seek_element.Tie as tie

@@ -1,5 +1,5 @@
 -- By where the run before the string ended. Assumes nothing.
-use Rattle.package.proofs.ElementLaws as laws
+use Rattle.package.proofs.PartLaws as laws
 use borrow.Author.Needs.{needs}
 use Rattle.package.proofs.lookup.string_part.Statement.{statement}
 use Rattle.package.proofs.lookup.string_part.Tie as tie

@@ -1,0 +1,96 @@
+// Runs document 01's bench samples: each package of data/ is looked up, and the answer is written as `NUMBER at PLACE`.
+use format::Answer;
+use libc::STDOUT_FILENO;
+
+// Writes number and place of an answer, and ends the line.
+fn show(answer: Answer) {
+    match answer {
+        Answer::Done(place) => {
+            io::write_all(STDOUT_FILENO, b"0 at ");
+            io::print_decimal(STDOUT_FILENO, place as u64);
+        }
+        Answer::Refused(number, place) => {
+            io::print_decimal(STDOUT_FILENO, number as u64);
+            io::write_all(STDOUT_FILENO, b" at ");
+            io::print_decimal(STDOUT_FILENO, place as u64);
+        }
+    }
+    io::write_all(STDOUT_FILENO, b"\n");
+}
+
+// Looks the tag and the type up in the header of a package, and writes the package's name and the answer.
+fn find(name: &[u8], tag: u32, ty: u32) {
+    let file = os::open_read(name);
+    if file < 0 {
+        os::fail(name);
+        return;
+    }
+    let mut pkg = [0u8; 65537];
+    let n = io::read_full(file, &mut pkg);
+    libc::close(file);
+    let answer = package::find_answer(&pkg[..n], 1, tag, ty);
+    io::write_all(STDOUT_FILENO, name);
+    io::write_all(STDOUT_FILENO, b": ");
+    show(answer);
+}
+
+// Sizes, lead and structures.
+fn packages() {
+    find(b"right", 1000, 6);
+    find(b"right", 1000, 8);
+    find(b"right", 1106, 4);
+    find(b"right", 1106, 3);
+    find(b"document_002", 1000, 6);
+    find(b"gap_filled", 1000, 6);
+    find(b"check02_limit", 1000, 6);
+    find(b"check02_one_more", 1000, 6);
+    find(b"check03_empty", 1000, 6);
+    find(b"check03_95_bytes", 1000, 6);
+}
+
+fn leads() {
+    find(b"check04_magic", 1000, 6);
+    find(b"check04_major", 1000, 6);
+    find(b"check04_minor", 1000, 6);
+    find(b"check04_type", 1000, 6);
+    find(b"check04_name", 1000, 6);
+    find(b"check04_system", 1000, 6);
+    find(b"check04_signature_type", 1000, 6);
+    find(b"check04_two_fields", 1000, 6);
+}
+
+fn structures() {
+    find(b"check05_signature", 1000, 6);
+    find(b"check05_header", 1000, 6);
+    find(b"check05_header_behind_end", 1000, 6);
+    find(b"check06_magic", 1000, 6);
+    find(b"check06_reserved", 1000, 6);
+    find(b"check07_none", 1000, 6);
+    find(b"check07_512", 2511, 7);
+    find(b"check07_513", 2511, 7);
+    find(b"check08_store_long", 1000, 6);
+    find(b"check08_largest", 1000, 6);
+}
+
+fn records() {
+    find(b"check09_type_0", 1000, 6);
+    find(b"check09_type_5", 1000, 6);
+    find(b"check09_type_10", 1000, 6);
+    find(b"check10_none", 1000, 6);
+    find(b"check10_two_strings", 1000, 6);
+    find(b"check11_int32_at_2", 1, 4);
+    find(b"check12_int32_count_2", 1, 4);
+    find(b"check12_product_wraps", 1, 4);
+    find(b"check12_zero_missing", 1, 6);
+    find(b"check12_bin_at_8", 1, 7);
+    find(b"check13_tag_twice", 1000, 6);
+    find(b"store8_int32_at_4", 1, 4);
+    find(b"store8_string_at_7", 1, 6);
+}
+
+fn main() {
+    packages();
+    leads();
+    structures();
+    records();
+}
