@@ -1,4 +1,4 @@
--- Laws of `decimalOf` and `decimalAfter`: none, starts; one for each way through a turn: low, high, turn, over, ends.
+-- Laws of `decimalOf` and `decimalAfter`: digit, none, starts; one for each way through a turn: low, high, turn, over, ends.
 use Prim.Native.Nat.{ℕ, _+_, _*_, _-_, _≤_, _<_}
 use mathlib.Core.Path.{_≡_, refl, sym, _∙_}
 use mathlib.Core.List.{List, [], _∷_}
@@ -12,7 +12,7 @@ use Rattle.text.specs.declared.Parsed.{Parsed}
 use Rattle.text.specs.declared.Parsed.the-variants.{Number, Other}
 use Rattle.text.specs.Decimal.{isDigit, allDigits, valueAfter, decimalAfter, decimalOf}
 
-digit : (b : ℕ) → 48 ≤ b → b ≤ 57 → isDigit b ≡ true
+pub digit : (b : ℕ) → 48 ≤ b → b ≤ 57 → isDigit b ≡ true
 unfolding isDigit
 digit b l h = rw (le-leb 48 b l, le-leb b 57 h)
 

@@ -1,4 +1,4 @@
--- Laws of `hexDigit` and `hexOf`: low-digit, high-digit; of the loop of `hex`: turn, ends.
+-- Laws of `hexDigit` and `hexOf`: low-digit, high-digit; of the loop of `hex`: turn, ends; of its answer: within.
 use Prim.Native.Nat.{ℕ, suc, _+_, _*_, _-_, _/_, _%_, _≤_, _<_, min}
 use mathlib.Core.Path.{_≡_, refl, ap, _∙_}
 use mathlib.Core.List.{List, [], _∷_, _++_, append-assoc}
@@ -61,3 +61,10 @@ module _ (src before : List ℕ) (n i : ℕ) (fit : n ≡ min (length src) (leng
   pub ends : i ≤ n → n ≤ i → Spelled src before (2 * n) out
   unfolding shown
   ends l g = let e : i ≡ n = omega arith in record { count = ap (λ (k : ℕ). 2 * k) fit; buffer = rw (← fit, ← e) inv }
+
+-- the answer counts bytes of the buffer
+pub within : (src before : List ℕ) {written : ℕ} {after : List ℕ} → Spelled src before written after → written ≤ length after
+unfolding shown
+within src before h =
+    let n = min (length src) (length before / 2) in
+    rw (h .buffer, h .count, length-append, length-hexOf, length-take) (omega arith)

@@ -1,8 +1,11 @@
-// Numbers and bytes as text: a decimal word read, bytes written in hex.
+// Numbers and bytes as text: a decimal word read, bytes written in hex, numbers on a line.
+pub mod lines;
+
 ghost use mathlib.Core.Path.{_≡_};
 ghost use Prim.Native.Nat.{_<_, min};
 ghost use Rattle.text.specs.Decimal.{decimalOf};
 ghost use Rattle.text.specs.Hex.{hexDigit, Spelled};
+pub use lines::line;
 
 // What a word says.
 pub enum Parsed {

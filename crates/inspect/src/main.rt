@@ -1,0 +1,39 @@
+// Shows what a package holds. It reads the package from standard input; its arguments say what to show: an index, the
+// data of an entry or of an element, or the version required for a name.
+mod request;
+mod show;
+
+use format::FileOffset;
+use libc::STDIN_FILENO;
+use request::Request;
+
+// One byte more than a package may have, so that a longer input is refused.
+const ROOM: usize = FileOffset::LIMIT + 1;
+
+// Shows what is asked of a package.
+fn answer(asked: Request, pkg: &[u8]) {
+    match asked {
+        Request::Index(which) => show::put_index(pkg, which),
+        Request::Find(which, tag, ty) => show::put_found(
+            package::find_answer(pkg, which, tag, ty),
+            package::find(pkg, which, tag, ty),
+        ),
+        Request::Element(which, tag, ty, k) => show::put_found(
+            package::find_element_answer(pkg, which, tag, ty, k),
+            package::find_element(pkg, which, tag, ty, k),
+        ),
+        Request::Requires => show::put_required(pkg),
+        Request::Unknown => show::put_usage(),
+    }
+}
+
+fn main() {
+    let asked = request::of_arguments();
+    if let Request::Unknown = asked {
+        show::put_usage();
+        return;
+    }
+    let mut room = [0u8; ROOM];
+    let n = io::read_full(STDIN_FILENO, &mut room);
+    answer(asked, &room[..n]);
+}

@@ -1,0 +1,93 @@
+// What the program's arguments ask for.
+use text::Parsed;
+
+// A request by its numbers: structure, tag, type and element. The name of a required version is read where it is used.
+pub enum Request {
+    Index(u32),
+    Find(u32, u32, u32),
+    Element(u32, u32, u32, u32),
+    Requires,
+    Unknown,
+}
+
+// The number that argument `i` is.
+fn number(i: usize) -> Parsed {
+    let mut word = io::buffer();
+    let n = os::arg(i, &mut word);
+    if os::errno() != 0 {
+        return Parsed::Other;
+    }
+    text::decimal(&word[..n])
+}
+
+// `index STRUCTURE`
+fn index() -> Request {
+    let first = number(2);
+    let Parsed::Number(which) = first else {
+        return Request::Unknown;
+    };
+    Request::Index(which)
+}
+
+// `find STRUCTURE TAG TYPE`
+fn find() -> Request {
+    let first = number(2);
+    let Parsed::Number(which) = first else {
+        return Request::Unknown;
+    };
+    let second = number(3);
+    let Parsed::Number(tag) = second else {
+        return Request::Unknown;
+    };
+    let third = number(4);
+    let Parsed::Number(ty) = third else {
+        return Request::Unknown;
+    };
+    Request::Find(which, tag, ty)
+}
+
+// `element STRUCTURE TAG TYPE NUMBER`
+fn element() -> Request {
+    let entry = find();
+    let Request::Find(which, tag, ty) = entry else {
+        return Request::Unknown;
+    };
+    let last = number(5);
+    let Parsed::Number(k) = last else {
+        return Request::Unknown;
+    };
+    Request::Element(which, tag, ty, k)
+}
+
+// What a command asks for. `count` is the number of arguments, the program's name and the command among them.
+fn command(word: &[u8], count: usize) -> Request {
+    if count == 3 {
+        if be::same(word, b"index") {
+            return index();
+        }
+        if be::same(word, b"requires") {
+            return Request::Requires;
+        }
+    }
+    if count == 5 {
+        if be::same(word, b"find") {
+            return find();
+        }
+    }
+    if count == 6 {
+        if be::same(word, b"element") {
+            return element();
+        }
+    }
+    Request::Unknown
+}
+
+// The request of the arguments.
+pub(crate) fn of_arguments() -> Request {
+    let mut word = io::buffer();
+    let n = os::arg(1, &mut word);
+    if os::errno() != 0 {
+        return Request::Unknown;
+    }
+    command(&word[..n], os::arg_count())
+}
