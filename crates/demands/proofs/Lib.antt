@@ -5,3 +5,4 @@ pub mod EditionTheorems
 pub mod AnswerLaws
 pub mod Demand1
 pub mod Demand3
+pub mod BothLaws

@@ -15,7 +15,7 @@ use Rattle.book.specs.Book.{kindAt, places}
 use Rattle.book.specs.Doses.{doses, numbersOf}
 use Rattle.reading.specs.Editions.{Edition, Extends, editionOf, batchTag, batchLine}
 use Rattle.reading.specs.Reading.{bookOf, needed, checksAt, readAnswer}
-use Rattle.reading.specs.Buffers.{bufferAfter}
+use Rattle.reading.specs.Buffers.{bufferAfter, Read}
 use Rattle.demands.specs.Lawful.{LawfulPackage}
 
 -- Demand 1: "A refused reading changes no number of the dose buffer; an accepted one writes its doses at the front and nothing
@@ -83,24 +83,30 @@ ExtendingAgrees = (earlier later : Edition) → Extends earlier later → (s : L
 abbrev pub ByBatch : Answer → Type 0
 ByBatch answer = (answer ≡ Refused 14 batchTag) ⊎ (answer ≡ Refused 15 batchTag) ⊎ (answer ≡ Refused 23 batchTag)
 
--- Demand 3, for one package and two buffers that hold the same numbers beforehand
-pub record EditionsAgree (s before : List ℕ) : Type 0 where
+-- Demand 3: two readings of one package, at edition 1 and at edition 2, into buffers of their own that held the same numbers
+-- beforehand: what the two answer, and what they leave in the buffers
+pub record EditionsAgree (s : List ℕ) (first second : Answer) (after after′ : List ℕ) : Type 0 where
   -- if edition 2 accepts, edition 1 refuses exactly when the book holds a weighed kind that edition 1 lacks, with number
   -- 20 and the place of the first such record
-  pub acceptedLacks : (count place : ℕ) → readAnswer 2 s (length before) ≡ Done count
-      → lackingIn (editionOf 1) (bookOf s) ≡ First place → readAnswer 1 s (length before) ≡ Refused 20 place
+  pub acceptedLacks : (count place : ℕ) → second ≡ Done count → lackingIn (editionOf 1) (bookOf s) ≡ First place
+      → first ≡ Refused 20 place
   -- if the book holds none, edition 1 accepts with the same dose count and doses, and the two buffers end equal
-  pub acceptedBoth : (count : ℕ) → readAnswer 2 s (length before) ≡ Done count
-      → lackingIn (editionOf 1) (bookOf s) ≡ NoneLacks
-      → (readAnswer 1 s (length before) ≡ Done count) × (bufferAfter 1 s before ≡ bufferAfter 2 s before)
+  pub acceptedBoth : (count : ℕ) → second ≡ Done count → lackingIn (editionOf 1) (bookOf s) ≡ NoneLacks
+      → (first ≡ Done count) × (after ≡ after′)
   -- if edition 1 accepts and edition 2 refuses, the refusal is 14, 15 or 23, and its place is 20002
-  pub laterRefuses : (count number place : ℕ) → readAnswer 1 s (length before) ≡ Done count
-      → readAnswer 2 s (length before) ≡ Refused number place → ByBatch (readAnswer 2 s (length before))
+  pub laterRefuses : (count number place : ℕ) → first ≡ Done count → second ≡ Refused number place → ByBatch second
   -- if both refuse, number and place agree, unless edition 1 gives 20, or edition 2 gives 14, 15 or 23 with that tag
-  pub bothRefuse : (number place number′ place′ : ℕ) → readAnswer 1 s (length before) ≡ Refused number place
-      → readAnswer 2 s (length before) ≡ Refused number′ place′
-      → (readAnswer 1 s (length before) ≡ readAnswer 2 s (length before)) ⊎ (number ≡ 20)
-      ⊎ ByBatch (readAnswer 2 s (length before))
+  pub bothRefuse : (number place number′ place′ : ℕ) → first ≡ Refused number place → second ≡ Refused number′ place′
+      → (first ≡ second) ⊎ (number ≡ 20) ⊎ ByBatch second
 
 abbrev pub Demand3 : Type 0
-Demand3 = (s before : List ℕ) → EditionsAgree s before
+Demand3 =
+    (s before : List ℕ)
+    → EditionsAgree s (readAnswer 1 s (length before)) (readAnswer 2 s (length before)) (bufferAfter 1 s before)
+    (bufferAfter 2 s before)
+
+-- Demand 3 of the call that reads at both editions
+pub record ReadBoth (s before before′ : List ℕ) (first second : Answer) (after after′ : List ℕ) : Type 0 where
+  pub atFirst : Read 1 s before first after
+  pub atSecond : Read 2 s before′ second after′
+  pub agree : before ≡ before′ → EditionsAgree s first second after after′

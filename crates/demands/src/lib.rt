@@ -1,1 +1,19 @@
-// The letter's demands over the reading.
+// The letter's demands over the reading, and the call that reads a package at both editions.
+ghost use Rattle.demands.specs.Demands.{ReadBoth};
+use format::Answer;
+
+// What the readings at editions 1 and 2 answer.
+pub struct Answers {
+    pub first: Answer,
+    pub second: Answer,
+}
+
+// Reads a package at edition 1 into one buffer and at edition 2 into another. Each reading answers and leaves its buffer as
+// `reading::read` does; where the buffers held the same numbers, the two agree as the letter's third demand says.
+pub fn read_both(pkg: &[u8], early: &mut [u32], late: &mut [u32]) -> Answers
+    ensures { λ r. ⌜ ReadBoth (now (pkg .entry)) (now (early .entry)) (now (late .entry)) (r .first) (r .second) (now (early .exit)) (now (late .exit)) ⌝ }
+{
+    let first = reading::read(1, pkg, early);
+    let second = reading::read(2, pkg, late);
+    Answers { first, second }
+}

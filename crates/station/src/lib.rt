@@ -1,7 +1,8 @@
-// The calls for a host program in C: number and place of a look-up in one number, number × 2^32 + place.
+// The calls for a host program in C: number and place in one number, number × 2^32 + place.
 ghost use mathlib.Core.Path.{_≡_};
 ghost use Rattle.format.specs.Verdicts.{packedOf};
 ghost use Rattle.package.specs.Lookup.{findAnswer, findElementAnswer};
+ghost use Rattle.station.specs.Station.{StationRead};
 
 // A look-up: 0 and the data's file offset, or the first failing check of 2 to 13 and 25.
 #[no_mangle]
@@ -23,4 +24,13 @@ pub extern "C" fn station_find_element(
     ensures { λ r. ⌜ r ≡ packedOf (findElementAnswer (now (pkg .entry)) structure tag ty element) ⌝ }
 {
     package::find_element_answer(pkg, structure, tag, ty, element).packed()
+}
+
+// The reading at an edition: 0 and the dose count, with the doses at the front of the buffer, four bytes to a number,
+// big-endian; or the first failing check of 1 to 24, and the buffer is as it was.
+#[no_mangle]
+pub extern "C" fn station_read(edition: u32, pkg: &[u8], doses: &mut [u8]) -> u64
+    ensures { λ r. ⌜ StationRead edition (now (pkg .entry)) (now (doses .entry)) r (now (doses .exit)) ⌝ }
+{
+    reading::read_bytes(edition, pkg, doses).packed()
 }

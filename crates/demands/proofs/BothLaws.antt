@@ -1,0 +1,18 @@
+-- Two readings of one package, at editions 1 and 2: read-both.
+use mathlib.Core.Path.{_≡_, sym, ap}
+use mathlib.Core.List.{List}
+use Prim.Native.Nat.{ℕ}
+use lib.ListN.{length}
+use Rattle.format.specs.declared.verdict.Answer.{Answer}
+use Rattle.reading.specs.Reading.{readAnswer}
+use Rattle.reading.specs.Buffers.{bufferAfter, Read}
+use Rattle.demands.specs.Demands.{EditionsAgree, ReadBoth}
+use Rattle.demands.proofs.Demand3.{demand3}
+
+module _ (s before before′ : List ℕ) {first second : Answer} {after after′ : List ℕ} (p : Read 1 s before first after)
+    (q : Read 2 s before′ second after′) where
+  agree : before ≡ before′ → EditionsAgree s first second after after′
+  agree e = rw (p .answered, p .buffer, q .answered, q .buffer, ← e) (demand3 s before)
+
+  pub read-both : ReadBoth s before before′ first second after after′
+  read-both = record { atFirst = p; atSecond = q; agree = agree }

@@ -1,0 +1,12 @@
+-- Document 01: for C the dose buffer is bytes, four to a number, big-endian, a remainder unused; number and place come back as
+-- number × 2^32 + place.
+use Prim.Native.Nat.{ℕ}
+use mathlib.Core.Path.{_≡_}
+use mathlib.Core.List.{List}
+use Rattle.format.specs.Verdicts.{packedOf}
+use Rattle.reading.specs.Reading.{readAnswer}
+use Rattle.reading.specs.Buffers.{numbersIn, bytesAfter}
+
+pub record StationRead (edition : ℕ) (s before : List ℕ) (answer : ℕ) (after : List ℕ) : Type 0 where
+  pub answered : answer ≡ packedOf (readAnswer edition s (numbersIn before))
+  pub buffer : after ≡ bytesAfter edition s before
