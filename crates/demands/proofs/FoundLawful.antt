@@ -1,0 +1,77 @@
+-- What is asked of the record that a look-up by tag finds, as a rule for every record that has the tag: found-iff; its
+-- data: data-iff; its number: number-iff; its count: count-iff, counted-iff, below-count-iff, same-count-iff.
+use Prim.Native.Nat.{ℕ, _<_}
+use mathlib.Core.Path.{_≡_, refl}
+use mathlib.Core.Logic.{_↔_, Iff·rfl, _≢_, _⊎_, inl, inr, ⊎-elim}
+use mathlib.Core.List.{List}
+use mathlib.Core.Bool.{true, false≢true}
+use Rattle.be.specs.Numbers.{be32At}
+use Rattle.format.specs.declared.places.Section.{Section}
+use Rattle.format.specs.declared.records.IndexRecord.{IndexRecord}
+use Rattle.format.specs.Places.{inFile}
+use Rattle.structure.specs.declared.lookup.Entry.{Entry}
+use Rattle.structure.specs.declared.lookup.Found.{Found}
+use Rattle.structure.specs.declared.lookup.Found.the-variants.{At, Nothing}
+use Rattle.structure.specs.declared.lookup.Tagged.{Tagged}
+use Rattle.structure.specs.declared.lookup.Tagged.the-variants.{Present, Absent}
+use Rattle.structure.specs.Entries.{recordAt, dataEnd}
+use Rattle.structure.specs.Lookup.{entryOf, taggedIn, entryFor}
+use Rattle.rules.specs.Tags.{isPresent, countOf, has, countIn, numberAt, numberIn}
+use Rattle.rules.specs.Texts.{entryIn}
+use Rattle.demands.specs.Lawful.{HasTag, WhereTagged, HasCount, SameCount, DataIs}
+use Rattle.demands.proofs.TagLawful.{tagged-absent, has-tag, where-absent, where-present}
+
+-- no two records of a structure share a tag
+abbrev pub Apart : List ℕ → Section → Type 0
+Apart s section = (i j : ℕ) → i < section .nindex → j < i → recordAt s section j .tag ≢ recordAt s section i .tag
+
+module _ (s : List ℕ) (section : Section) (apart : Apart s section) (tag : ℕ) where
+  -- where nothing is found the rule says nothing: what is asked then holds, or the tag is there
+  pub found-iff : (Asked : Tagged → Type 0) (Rule : IndexRecord → Type 0)
+      → ((e : IndexRecord) → HasTag s section tag → Asked (Present e) ↔ Rule e)
+      → Asked Absent ⊎ HasTag s section tag → Asked (taggedIn s section tag) ↔ WhereTagged s section tag Rule
+  found-iff Asked Rule f none = go (taggedIn s section tag) refl
+    where
+      go : (found : Tagged) → taggedIn s section tag ≡ found → Asked found ↔ WhereTagged s section tag Rule
+      go (Present e) q =
+          let w = where-present s section tag apart Rule e q in
+          let there = has-tag s section tag .0 (rw q) in
+          (λ h. w .1 (f e there .0 h), λ h. f e there .1 (w .0 h))
+      go Absent q = (
+        λ h. where-absent s section tag Rule q,
+        λ h. ⊎-elim (λ a. a) (λ r. absurd (tagged-absent s section tag q (r .0) (r .1) (r .2))) none,
+      )
+
+  pub data-iff : (Asked : Found → Type 0) (Rule : Entry → Type 0)
+      → ((entry : Entry) → HasTag s section tag → Asked (At entry) ↔ Rule entry)
+      → Asked Nothing → Asked (entryIn s section tag) ↔ DataIs s section tag Rule
+  data-iff Asked Rule f none =
+      found-iff (λ (t : Tagged). Asked (entryFor s section t))
+      (λ (e : IndexRecord). Rule (entryOf section e (dataEnd s section e)))
+      (λ e. f (entryOf section e (dataEnd s section e))) (inl none)
+
+  pub number-iff : (n : ℕ) → HasTag s section tag
+      → (numberIn s section tag ≡ n)
+      ↔ WhereTagged s section tag (λ (e : IndexRecord). be32At s (inFile section (e .offset)) ≡ n)
+  number-iff n h =
+      found-iff (λ (t : Tagged). numberAt s section t ≡ n)
+      (λ (e : IndexRecord). be32At s (inFile section (e .offset)) ≡ n) (λ e k. Iff·rfl) (inr h)
+
+  pub count-iff : (n : ℕ) → HasTag s section tag → (countIn s section tag ≡ n) ↔ HasCount s section tag n
+  count-iff n h = found-iff (λ (t : Tagged). countOf t ≡ n) (λ (e : IndexRecord). e .count ≡ n) (λ e k. Iff·rfl) (inr h)
+
+  pub counted-iff : (n : ℕ) → (has s section tag ≡ true → countIn s section tag ≡ n) ↔ HasCount s section tag n
+  counted-iff n =
+      found-iff (λ (t : Tagged). isPresent t ≡ true → countOf t ≡ n) (λ (e : IndexRecord). e .count ≡ n)
+      (λ e k. (λ h. h refl, λ h q. h)) (inl (λ q. absurd (false≢true q)))
+
+  pub below-count-iff : (n : ℕ) → HasTag s section tag
+      → (n < countIn s section tag) ↔ WhereTagged s section tag (λ (e : IndexRecord). n < e .count)
+  below-count-iff n h =
+      found-iff (λ (t : Tagged). n < countOf t) (λ (e : IndexRecord). n < e .count) (λ e k. Iff·rfl) (inr h)
+
+  pub same-count-iff : (other : ℕ) → HasTag s section tag
+      → HasCount s section other (countIn s section tag) ↔ SameCount s section other tag
+  same-count-iff other h =
+      found-iff (λ (t : Tagged). HasCount s section other (countOf t))
+      (λ (e : IndexRecord). HasCount s section other (e .count)) (λ e k. Iff·rfl) (inr h)

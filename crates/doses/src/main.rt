@@ -1,0 +1,81 @@
+// The doses of a package: reads one package from standard input at edition 2, and writes its doses and their sum, or the
+// refusal.
+ghost use Prim.Native.Nat.{_≤_};
+ghost use lib.ListN.{length};
+use format::Answer;
+use format::FileOffset;
+use libc::STDIN_FILENO;
+use libc::STDOUT_FILENO;
+
+// One byte more than a package may have, so that a longer input is refused.
+const ROOM: usize = FileOffset::LIMIT + 1;
+
+// Writes a dose: `OXIDE MILLIGRAMS`.
+fn put_dose(dose: &[u32]) {
+    let mut line = [0u8; 22];
+    let n = text::lines::line(dose, &mut line);
+    io::write_all(STDOUT_FILENO, &line[..n]);
+}
+
+// Writes a line for each dose of a run of numbers, oxide then milligrams.
+fn put_doses(numbers: &[u32]) {
+    let mut i = 0;
+    while i + 2 <= numbers.len() {
+        let next = i + 2;
+        put_dose(&numbers[i..next]);
+        i = next;
+    }
+}
+
+// The sum of the milligrams of a run of numbers, oxide then milligrams.
+fn total(numbers: &[u32]) -> u64
+    requires { ⌜ length (now numbers) ≤ 8192 ⌝ }
+{
+    let mut sum: u64 = 0;
+    let mut i = 0;
+    while i + 2 <= numbers.len() {
+        let milligrams = i + 1;
+        sum += numbers[milligrams] as u64;
+        i += 2;
+    }
+    sum
+}
+
+// Writes an accepted book's doses and their sum.
+fn put_book(numbers: &[u32])
+    requires { ⌜ length (now numbers) ≤ 8192 ⌝ }
+{
+    io::write_all(STDOUT_FILENO, b"edition 2\n");
+    put_doses(numbers);
+    io::write_all(STDOUT_FILENO, b"total ");
+    io::print_decimal(STDOUT_FILENO, total(numbers));
+    io::write_all(STDOUT_FILENO, b"\n");
+}
+
+// Writes number and place of a refusal.
+fn put_refused(number: u32, place: u32) {
+    io::write_all(STDOUT_FILENO, b"refused ");
+    io::print_decimal(STDOUT_FILENO, number as u64);
+    io::write_all(STDOUT_FILENO, b" at ");
+    io::print_decimal(STDOUT_FILENO, place as u64);
+    io::write_all(STDOUT_FILENO, b"\n");
+}
+
+// Reads a package at edition 2, with room for any book's doses, and writes what it holds.
+fn put_package(pkg: &[u8]) {
+    let mut doses = [0u32; 8192];
+    let answer = reading::read(2, pkg, &mut doses);
+    match answer {
+        Answer::Done(count) => {
+            let used = 2 * count as usize;
+            put_book(&doses[..used]);
+        }
+        Answer::Refused(number, place) => put_refused(number, place),
+    }
+}
+
+fn main() {
+    let mut room = [0u8; ROOM];
+    let n = io::read_full(STDIN_FILENO, &mut room);
+    put_package(&room[..n]);
+}
