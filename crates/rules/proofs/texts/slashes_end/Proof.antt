@@ -1,15 +1,17 @@
--- The bytes that are left decide, with the byte before them. Assumes nothing.
-use mathlib.Core.Logic.{⊎-elim}
-use borrow.Author.Needs.{needs}
-use mathlib.Core.Path.{_≡_}
+-- The bytes that are left decide, with the byte before them.
+-- Assumes nothing.
 use Prim.Native.Nat.{_+_}
+use mathlib.Core.Logic.{⊎-elim}
+use mathlib.Core.Path.{_≡_}
+use borrow.Author.Needs.{needs}
 use Rattle.rules.specs.Texts.{slashesEnd}
 use Rattle.rules.proofs.TextsLaws as laws
 use Rattle.rules.proofs.texts.slashes_end.Statement.{statement}
 use Rattle.rules.proofs.texts.slashes_end.Tie as tie
 
 abbrev Inv-loop : tie.InvT-loop
-Inv-loop pkg n at last₀ left₀ i₀ last left i = (i + left ≡ at + n) × (slashesEnd pkg 0 n at ≡ slashesEnd pkg last left i)
+Inv-loop pkg n at last₀ left₀ i₀ last left i = (i + left ≡ at + n)
+    × (slashesEnd pkg 0 n at ≡ slashesEnd pkg last left i)
 
 abbrev μ-loop : tie.MeasureT-loop
 μ-loop pkg n at last₀ left₀ i₀ last left i = left
