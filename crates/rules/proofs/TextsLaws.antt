@@ -1,6 +1,6 @@
 -- Laws of the texts' scans, one for each way through a turn (below-turn, below-ends, below-spent; slash-zero,
--- slash-other, slash-ends, slash-spent), of 1116's numbers as they are found (below-present, below-absent), and of where
--- an entry ends (extent-le).
+-- slash-other, slash-ends, slash-spent), of 1116's numbers as they are found (below-present, below-absent), and of
+-- where an entry ends (extent-le).
 use Prim.Native.Nat.{ℕ, suc, _+_, _-_, _*_, _≤_, _<_}
 use mathlib.Core.Path.{_≡_, refl, sym, ap, _∙_}
 use mathlib.Core.List.{List}
