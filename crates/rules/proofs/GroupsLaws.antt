@@ -1,4 +1,4 @@
--- Laws of `countsCheck` over the tags from number i on: turn, ends, spent.
+-- Laws of `countsCheck` over the tags from number i on, one for each way through a turn: turn, ends, spent.
 use Prim.Native.Nat.{ℕ, suc, _+_, _≤_, _<_}
 use mathlib.Core.Path.{_≡_, refl, sym, _∙_}
 use mathlib.Core.List.{List, _∷_}

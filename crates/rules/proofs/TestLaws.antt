@@ -1,5 +1,5 @@
--- What a choice is, from the case that was found (by-case, first-of, second-of), and what a test made of tests is, from the
--- answers of the functions that make them: r is the answer, t the definition that it equals.
+-- What a choice is, from the case that was found (by-case, first-of, second-of), and what a test made of tests is
+-- (made), from the answers of the functions that make them: r is the answer, t the definition that it equals.
 use Prim.Native.Nat.{ℕ}
 use mathlib.Core.Path.{_≡_, sym, ap, _∙_}
 use mathlib.Core.Bool.{Bool, true, false, cond, _&&_, _||_}

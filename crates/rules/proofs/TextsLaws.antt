@@ -1,5 +1,6 @@
--- Laws of the texts' scans, one for each way through a turn (below-turn, below-ends, below-spent; slash-zero, slash-other,
--- slash-ends, slash-spent), and where an entry ends: extent-le.
+-- Laws of the texts' scans, one for each way through a turn (below-turn, below-ends, below-spent; slash-zero,
+-- slash-other, slash-ends, slash-spent), of 1116's numbers as they are found (below-present, below-absent), and of
+-- where an entry ends (extent-le).
 use Prim.Native.Nat.{ℕ, suc, _+_, _-_, _*_, _≤_, _<_}
 use mathlib.Core.Path.{_≡_, refl, sym, ap, _∙_}
 use mathlib.Core.List.{List}
@@ -87,12 +88,10 @@ module _ (s : List ℕ) where
     unfolding slashesEnd
     slash-spent l = let k : left ≡ 0 = omega arith in sym (rw k at inv)
 
-added : (a b : ℕ) → a + b - a ≡ b
-added a b = omega arith
-
 -- an entry's data ends where its structure does, or before
 module _ (s : List ℕ) (section : Section) (e : IndexRecord) where
-  strings-le : (end : Ending) → stringsFrom s (section .hsize - e .offset .0) (inFile section (e .offset)) (e .count) ≡ end
+  strings-le : (end : Ending)
+      → stringsFrom s (section .hsize - e .offset .0) (inFile section (e .offset)) (e .count) ≡ end
       → extentTo (inFile section (e .offset)) end ≤ sectionEnd section - inFile section (e .offset)
   strings-le (Ends to) h =
       let b = bound s (section .hsize - e .offset .0) (inFile section (e .offset)) (e .count) to h in
@@ -100,7 +99,8 @@ module _ (s : List ℕ) (section : Section) (e : IndexRecord) where
   strings-le Open h = omega arith
 
   end-le : (size : ElementSize)
-      → extentTo (inFile section (e .offset)) (endFor size s section e) ≤ sectionEnd section - inFile section (e .offset)
+      → extentTo (inFile section (e .offset)) (endFor size s section e)
+      ≤ sectionEnd section - inFile section (e .offset)
   end-le (Bytes n) = go (leb (e .offset .0 + n * e .count) (section .hsize)) refl
     where
       go : (b : Bool) → leb (e .offset .0 + n * e .count) (section .hsize) ≡ b
@@ -108,14 +108,13 @@ module _ (s : List ℕ) (section : Section) (e : IndexRecord) where
           ≤ sectionEnd section - inFile section (e .offset)
       go true l =
           let k : e .offset .0 + n * e .count ≤ section .hsize = leb-true _ _ l in
-          let d = added (inFile section (e .offset)) (n * e .count) in
           omega arith
       go false l = omega arith
   end-le ToZero = strings-le _ refl
   end-le Unlawful = omega arith
 
-pub extent-le : (s : List ℕ) (section : Section) (t : Tagged) {f : Found} {entry : Entry} → f ≡ entryFor s section t → f ≡ At entry
-    → entry .extent ≤ sectionEnd section - entry .at .0
+pub extent-le : (s : List ℕ) (section : Section) (t : Tagged) {f : Found} {entry : Entry} → f ≡ entryFor s section t
+    → f ≡ At entry → entry .extent ≤ sectionEnd section - entry .at .0
 unfolding dataEnd
 extent-le s section (Present e) {entry = entry} p h =
     let q : entryOf section e (dataEnd s section e) ≡ entry = cc in

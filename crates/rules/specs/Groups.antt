@@ -1,5 +1,5 @@
--- Document 01, "Catalogue", groups (check 17), in its order. Unless said otherwise the place is the lowest missing tag, else
--- the lowest tag whose count differs.
+-- Document 01, "Catalogue", groups (check 17), in its order. Unless said otherwise the place is the lowest missing tag,
+-- else the lowest tag whose count differs.
 use Prim.Native.Nat.{ℕ}
 use mathlib.Core.List.{List, [], _∷_}
 use mathlib.Core.Bool.{Bool, cond, not, _&&_, _||_}

@@ -65,8 +65,8 @@ foundSlashes s Nothing = true
 abbrev pub directoriesEnd : List ℕ → Section → Bool
 directoriesEnd s header = foundSlashes s (entryIn s header 1118)
 
--- 18 | text | tag: 1021 is "linux"; 1085 to 1088, where present, are "/bin/sh"; each 1116 value is below the count of 1118;
--- each string of 1118 ends with "/"
+-- 18 | text | tag: 1021 is "linux"; 1085 to 1088, where present, are "/bin/sh"; each 1116 value is below the count of
+-- 1118; each string of 1118 ends with "/"
 unfoldable pub textsCheck : List ℕ → Section → Verdict
 textsCheck s header =
     check (textIs s header linux 1021) 18 1021

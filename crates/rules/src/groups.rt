@@ -1,6 +1,10 @@
 // Check 17: groups of tags.
 ghost use mathlib.Core.Path.{_≡_};
-ghost use Rattle.rules.specs.Groups.{needsCheck, countCheck, countsCheck, signaturePairs, scriptPairs, oldNamesRight, newNamesCheck, namesCheck, wholeCheck, ledCheck, ledGroups, groupsCheck, fileTags};
+ghost use mathlib.Core.Bool.{_||_};
+ghost use Rattle.rules.specs.Tags.{has};
+ghost use Rattle.rules.specs.Groups.{needsCheck, countCheck, countsCheck, fileTags};
+ghost use Rattle.rules.specs.Groups.{signaturePairs, scriptPairs, oldNamesRight, newNamesCheck, namesCheck};
+ghost use Rattle.rules.specs.Groups.{wholeCheck, ledCheck, ledGroups, groupsCheck};
 use crate::tags::count;
 use crate::tags::has;
 use format::Section;
@@ -172,18 +176,28 @@ fn whole(pkg: &[u8], header: Section, n: u32, a: u32, b: u32, c: u32) -> Verdict
     Verdict::Pass
 }
 
+// Whether one of three tags is present.
+fn any_of(pkg: &[u8], header: Section, a: u32, b: u32, c: u32) -> bool
+    ensures { λ r. let s = now (pkg .entry) in ⌜ r ≡ (has s header a || has s header b || has s header c) ⌝ }
+{
+    if has(pkg, header, a) {
+        return true;
+    }
+    if has(pkg, header, b) {
+        return true;
+    }
+    if has(pkg, header, c) {
+        return true;
+    }
+    false
+}
+
 // A group of three tags, led by one of them: all or none present, counts equal to the leader's.
 fn led(pkg: &[u8], header: Section, leader: u32, a: u32, b: u32, c: u32) -> Verdict
     ensures { λ r. ⌜ r ≡ ledCheck (now (pkg .entry)) header leader a b c ⌝ }
 {
-    let n = count(pkg, header, leader);
-    if has(pkg, header, a) {
-        return whole(pkg, header, n, a, b, c);
-    }
-    if has(pkg, header, b) {
-        return whole(pkg, header, n, a, b, c);
-    }
-    if has(pkg, header, c) {
+    if any_of(pkg, header, a, b, c) {
+        let n = count(pkg, header, leader);
         return whole(pkg, header, n, a, b, c);
     }
     Verdict::Pass

@@ -62,9 +62,9 @@ fn slashes_end(pkg: &[u8], n: usize, at: usize) -> bool
     ensures { λ r. ⌜ r ≡ slashesEnd (now (pkg .entry)) 0 n at ⌝ }
 {
     let mut last = 0;
-    let mut left = n;
+    let mut rest = n;
     let mut i = at;
-    while 0 < left {
+    while 0 < rest {
         let b = be::byte_at(pkg, i);
         if b == 0 {
             if last != b'/' {
@@ -73,7 +73,7 @@ fn slashes_end(pkg: &[u8], n: usize, at: usize) -> bool
         }
         last = b;
         i += 1;
-        left -= 1;
+        rest -= 1;
     }
     true
 }

@@ -1,7 +1,8 @@
--- Part by part, in order. Assumes nothing.
+-- Part by part, in order.
+-- Assumes nothing.
+use borrow.Author.Needs.{needs}
 use Rattle.format.proofs.VerdictLaws.{went, halted}
 use Rattle.rules.specs.Rules.{rulesCheck}
-use borrow.Author.Needs.{needs}
 use Rattle.rules.proofs.check.Statement.{statement}
 use Rattle.rules.proofs.check.Tie as tie
 

@@ -1,8 +1,9 @@
--- The tag's number beside what the package has from the header's start on. Assumes nothing.
+-- The tag's number beside what the package has from the header's start on.
+-- Assumes nothing.
+use borrow.Author.Needs.{needs}
 use Rattle.format.proofs.VerdictLaws.{passed, stopped}
 use Rattle.rules.specs.Rules.{sizeTagCheck}
 use Rattle.rules.proofs.TestLaws.{same-number, other-number}
-use borrow.Author.Needs.{needs}
 use Rattle.rules.proofs.size_tag_check.Statement.{statement}
 use Rattle.rules.proofs.size_tag_check.Tie as tie
 

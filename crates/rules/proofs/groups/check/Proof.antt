@@ -1,7 +1,8 @@
--- Part by part, in order. Assumes nothing.
+-- Part by part, in order.
+-- Assumes nothing.
+use borrow.Author.Needs.{needs}
 use Rattle.format.proofs.VerdictLaws.{went, halted}
 use Rattle.rules.specs.Groups.{groupsCheck}
-use borrow.Author.Needs.{needs}
 use Rattle.rules.proofs.groups.check.Statement.{statement}
 use Rattle.rules.proofs.groups.check.Tie as tie
 
@@ -42,7 +43,9 @@ enum-known-v-3 c = search needs
 
 returns-3 : tie.Need-returns-3
 unfolding groupsCheck
-returns-3 c = let at-count = c .before .before .before .before in rw (← (at-count .count .ensures)) (search (went, halted) depth 12)
+returns-3 c =
+    let at-count = c .before .before .before .before in
+    rw (← (at-count .count .ensures)) (search (went, halted) depth 12)
 
 enum-told-3 : tie.Need-enum-told-3
 enum-told-3 c = search needs
@@ -55,7 +58,9 @@ enum-known-v-4 c = search needs
 
 returns-4 : tie.Need-returns-4
 unfolding groupsCheck
-returns-4 c = let at-count = c .before .before .before .before .before .before .before in rw (← (at-count .count .ensures)) (search (went, halted) depth 12)
+returns-4 c =
+    let at-count = c .before .before .before .before .before .before .before in
+    rw (← (at-count .count .ensures)) (search (went, halted) depth 12)
 
 enum-told-4 : tie.Need-enum-told-4
 enum-told-4 c = search needs
@@ -65,7 +70,9 @@ led-groups-requires c κs = search needs
 
 returns-5 : tie.Need-returns-5
 unfolding groupsCheck
-returns-5 c = let at-count = c .before .before .before .before .before .before .before in rw (← (at-count .count .ensures)) (search (went, halted) depth 12)
+returns-5 c =
+    let at-count = c .before .before .before .before .before .before .before in
+    rw (← (at-count .count .ensures)) (search (went, halted) depth 12)
 
 pub check-spec : {M : Type 1} → statement M
 check-spec =

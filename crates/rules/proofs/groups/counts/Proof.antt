@@ -1,8 +1,9 @@
--- By whether the tag is present. Assumes nothing.
+-- By whether the tag is present.
+-- Assumes nothing.
+use borrow.Author.Needs.{needs}
 use Rattle.format.proofs.VerdictLaws.{passed, stopped, answers}
 use Rattle.rules.specs.Groups.{countCheck}
 use Rattle.rules.proofs.TestLaws.{made}
-use borrow.Author.Needs.{needs}
 use Rattle.rules.proofs.groups.counts.Statement.{statement}
 use Rattle.rules.proofs.groups.counts.Tie as tie
 

@@ -1,15 +1,17 @@
--- The tags that are left decide. Assumes nothing.
-use borrow.Author.Needs.{needs}
-use mathlib.Core.Path.{_≡_}
+-- The tags that are left decide.
+-- Assumes nothing.
 use Prim.Native.Nat.{_≤_, _-_}
+use mathlib.Core.Path.{_≡_}
 use lib.ListN.{drop}
+use borrow.Author.Needs.{needs}
 use Rattle.rules.specs.Groups.{countsCheck, fileTags}
 use Rattle.rules.proofs.GroupsLaws as laws
 use Rattle.rules.proofs.groups.files.Statement.{statement}
 use Rattle.rules.proofs.groups.files.Tie as tie
 
 abbrev Inv-loop : tie.InvT-loop
-Inv-loop pkg header n i₀ i = (i ≤ 12) × (countsCheck pkg header n fileTags ≡ countsCheck pkg header n (drop i fileTags))
+Inv-loop pkg header n i₀ i = (i ≤ 12)
+    × (countsCheck pkg header n fileTags ≡ countsCheck pkg header n (drop i fileTags))
 
 abbrev μ-loop : tie.MeasureT-loop
 μ-loop pkg header n i₀ i = 12 - i

@@ -1,7 +1,8 @@
--- Part by part, in order. Assumes nothing.
+-- Part by part, in order.
+-- Assumes nothing.
+use borrow.Author.Needs.{needs}
 use Rattle.format.proofs.VerdictLaws.{went, halted}
 use Rattle.rules.specs.Groups.{ledGroups}
-use borrow.Author.Needs.{needs}
 use Rattle.rules.proofs.groups.led_groups.Statement.{statement}
 use Rattle.rules.proofs.groups.led_groups.Tie as tie
 

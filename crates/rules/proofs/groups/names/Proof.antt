@@ -1,8 +1,9 @@
--- By whether the old form is present. Assumes nothing.
+-- By whether the old form is present.
+-- Assumes nothing.
+use borrow.Author.Needs.{needs}
 use Rattle.format.proofs.VerdictLaws.{passed, stopped}
 use Rattle.rules.specs.Groups.{namesCheck}
 use Rattle.rules.proofs.TestLaws.{first-of, second-of, yes, no}
-use borrow.Author.Needs.{needs}
 use Rattle.rules.proofs.groups.names.Statement.{statement}
 use Rattle.rules.proofs.groups.names.Tie as tie
 

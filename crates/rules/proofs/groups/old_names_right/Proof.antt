@@ -1,9 +1,10 @@
--- A test for each rule, in order. Assumes nothing.
+-- A test for each rule, in order.
+-- Assumes nothing.
 use mathlib.Core.Path.{sym}
+use borrow.Author.Needs.{needs}
 use Rattle.format.proofs.VerdictLaws.{answers}
 use Rattle.rules.specs.Groups.{oldNamesRight}
 use Rattle.rules.proofs.TestLaws.{made}
-use borrow.Author.Needs.{needs}
 use Rattle.rules.proofs.groups.old_names_right.Statement.{statement}
 use Rattle.rules.proofs.groups.old_names_right.Tie as tie
 

@@ -1,8 +1,9 @@
--- A rung for each rule, in order. Assumes nothing.
+-- A rung for each rule, in order.
+-- Assumes nothing.
+use borrow.Author.Needs.{needs}
 use Rattle.format.proofs.VerdictLaws.{passed, stopped, answers}
 use Rattle.rules.specs.Groups.{wholeCheck}
 use Rattle.rules.proofs.TestLaws.{same-number, other-number}
-use borrow.Author.Needs.{needs}
 use Rattle.rules.proofs.groups.whole.Statement.{statement}
 use Rattle.rules.proofs.groups.whole.Tie as tie
 

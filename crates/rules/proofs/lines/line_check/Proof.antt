@@ -1,9 +1,10 @@
--- By whether the tag is present. Assumes nothing.
+-- By whether the tag is present.
+-- Assumes nothing.
+use borrow.Author.Needs.{needs}
 use Rattle.structure.specs.Lookup.{taggedIn}
 use Rattle.format.proofs.VerdictLaws.{passed, stopped, answers}
 use Rattle.rules.specs.Lines.{lineCheckAs}
 use Rattle.rules.proofs.TestLaws.{by-case, made}
-use borrow.Author.Needs.{needs}
 use Rattle.rules.proofs.lines.line_check.Statement.{statement}
 use Rattle.rules.proofs.lines.line_check.Tie as tie
 
@@ -23,16 +24,24 @@ allows-requires : tie.Need-allows-requires
 allows-requires c κs = search needs
 
 returns : tie.Need-returns
-returns c = by-case (lineCheckAs _) (taggedIn _ _ _) (search) (c .before .before .enum-told .given .1) (search (passed, stopped, answers))
+returns c =
+    by-case (lineCheckAs _) (taggedIn _ _ _) (search) (c .before .before .enum-told .given .1)
+    (search (passed, stopped, answers))
 
 returns-2 : tie.Need-returns-2
-returns-2 c = by-case (lineCheckAs _) (taggedIn _ _ _) (search) (c .before .before .enum-told .given .1) (search (passed, stopped, answers))
+returns-2 c =
+    by-case (lineCheckAs _) (taggedIn _ _ _) (search) (c .before .before .enum-told .given .1)
+    (search (passed, stopped, answers))
 
 returns-3 : tie.Need-returns-3
-returns-3 c = by-case (lineCheckAs _) (taggedIn _ _ _) (search) (c .before .before .before .found .given .1) (search (passed, stopped, made))
+returns-3 c =
+    by-case (lineCheckAs _) (taggedIn _ _ _) (search) (c .before .before .before .found .given .1)
+    (search (passed, stopped, made))
 
 returns-4 : tie.Need-returns-4
-returns-4 c = by-case (lineCheckAs _) (taggedIn _ _ _) (search) (c .before .before .before .found .given .1) (search (passed, stopped, made))
+returns-4 c =
+    by-case (lineCheckAs _) (taggedIn _ _ _) (search) (c .before .before .before .found .given .1)
+    (search (passed, stopped, made))
 
 pub line-check-spec : {M : Type 1} → statement M
 line-check-spec =

@@ -1,6 +1,7 @@
--- By whether the edition has the line. Assumes nothing.
-use Rattle.rules.proofs.TestLaws.{first-of, second-of, yes, no}
+-- By whether the edition has the line.
+-- Assumes nothing.
 use borrow.Author.Needs.{needs}
+use Rattle.rules.proofs.TestLaws.{first-of, second-of, yes, no}
 use Rattle.rules.proofs.lines.line_if.Statement.{statement}
 use Rattle.rules.proofs.lines.line_if.Tie as tie
 

@@ -1,7 +1,8 @@
--- The lines that are left decide. Assumes nothing.
-use borrow.Author.Needs.{needs}
-use mathlib.Core.Path.{_≡_}
+-- The lines that are left decide.
+-- Assumes nothing.
 use Prim.Native.Nat.{_-_}
+use mathlib.Core.Path.{_≡_}
+use borrow.Author.Needs.{needs}
 use Rattle.catalogue.specs.Catalogue.{inEdition, lineAt}
 use Rattle.rules.specs.Lines.{linesFrom}
 use Rattle.rules.proofs.LinesLaws as laws
@@ -9,7 +10,8 @@ use Rattle.rules.proofs.lines.lines_from.Statement.{statement}
 use Rattle.rules.proofs.lines.lines_from.Tie as tie
 
 abbrev Inv-loop : tie.InvT-loop
-Inv-loop edition pkg section from to i₀ i = linesFrom lineAt (inEdition edition) pkg section (to - from) from ≡ linesFrom lineAt (inEdition edition) pkg section (to - i) i
+Inv-loop edition pkg section from to i₀ i = linesFrom lineAt (inEdition edition) pkg section (to - from) from
+    ≡ linesFrom lineAt (inEdition edition) pkg section (to - i) i
 
 abbrev μ-loop : tie.MeasureT-loop
 μ-loop edition pkg section from to i₀ i = to - i

@@ -1,9 +1,10 @@
--- By whether a record has the tag. Assumes nothing.
-use Rattle.structure.specs.Lookup.{taggedIn}
+-- By whether a record has the tag.
+-- Assumes nothing.
 use mathlib.Core.Path.{refl}
+use borrow.Author.Needs.{needs}
+use Rattle.structure.specs.Lookup.{taggedIn}
 use Rattle.rules.specs.Tags.{isPresent}
 use Rattle.rules.proofs.TestLaws.{by-case}
-use borrow.Author.Needs.{needs}
 use Rattle.rules.proofs.tags.has.Statement.{statement}
 use Rattle.rules.proofs.tags.has.Tie as tie
 

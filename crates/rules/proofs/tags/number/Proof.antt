@@ -1,11 +1,11 @@
-use mathlib.Core.Path.{ap, _∙_}
+-- By whether a record has the tag.
+-- Assumes nothing.
+use mathlib.Core.Path.{ap, _∙_, refl}
+use borrow.Author.Needs.{needs}
 use Rattle.be.specs.Numbers.{be32At}
--- By whether a record has the tag. Assumes nothing.
-use mathlib.Core.Path.{refl}
 use Rattle.structure.specs.Lookup.{taggedIn}
 use Rattle.rules.specs.Tags.{numberAt}
 use Rattle.rules.proofs.TestLaws.{by-case}
-use borrow.Author.Needs.{needs}
 use Rattle.rules.proofs.tags.number.Statement.{statement}
 use Rattle.rules.proofs.tags.number.Tie as tie
 
@@ -25,7 +25,9 @@ enum-told : tie.Need-enum-told
 enum-told c = search needs
 
 returns : tie.Need-returns
-returns c = by-case (numberAt _ _) (taggedIn _ _ _) (search) (c .before .before .before .found .given .1) (c .be32 .ensures ∙ ap (be32At _) (c .before .in-file .ensures))
+returns c =
+    by-case (numberAt _ _) (taggedIn _ _ _) (search) (c .before .before .before .found .given .1)
+    (c .be32 .ensures ∙ ap (be32At _) (c .before .in-file .ensures))
 
 returns-2 : tie.Need-returns-2
 returns-2 c = by-case (numberAt _ _) (taggedIn _ _ _) (search) (c .enum-told .given .1) refl

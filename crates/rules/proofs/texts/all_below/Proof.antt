@@ -1,14 +1,16 @@
--- The numbers that are left decide; a place below 2^40 has room for 2^32 numbers. Assumes nothing.
-use borrow.Author.Needs.{needs}
-use mathlib.Core.Path.{_≡_}
+-- The numbers that are left decide; a place below 2^40 has room for 2^32 numbers.
+-- Assumes nothing.
 use Prim.Native.Nat.{_+_, _*_}
+use mathlib.Core.Path.{_≡_}
+use borrow.Author.Needs.{needs}
 use Rattle.rules.specs.Texts.{allBelow}
 use Rattle.rules.proofs.TextsLaws as laws
 use Rattle.rules.proofs.texts.all_below.Statement.{statement}
 use Rattle.rules.proofs.texts.all_below.Tie as tie
 
 abbrev Inv-loop : tie.InvT-loop
-Inv-loop pkg limit n at left₀ i₀ left i = (i + 4 * left ≡ at + 4 * n) × (allBelow pkg limit n at ≡ allBelow pkg limit left i)
+Inv-loop pkg limit n at left₀ i₀ left i = (i + 4 * left ≡ at + 4 * n)
+    × (allBelow pkg limit n at ≡ allBelow pkg limit left i)
 
 abbrev μ-loop : tie.MeasureT-loop
 μ-loop pkg limit n at left₀ i₀ left i = left

@@ -1,7 +1,8 @@
--- A rung for each rule, in order. Assumes nothing.
+-- A rung for each rule, in order.
+-- Assumes nothing.
+use borrow.Author.Needs.{needs}
 use Rattle.format.proofs.VerdictLaws.{passed, stopped, answers}
 use Rattle.rules.specs.Texts.{textsCheck}
-use borrow.Author.Needs.{needs}
 use Rattle.rules.proofs.texts.check.Statement.{statement}
 use Rattle.rules.proofs.texts.check.Tie as tie
 

@@ -1,11 +1,12 @@
--- By whether a record has the tag. Assumes nothing.
+-- By whether a record has the tag.
+-- Assumes nothing.
 use mathlib.Core.Path.{refl}
 use native.Mathlib.Omega.{arith}
+use borrow.Author.Needs.{needs}
 use Rattle.structure.specs.Lookup.{taggedIn, entryFor}
 use Rattle.rules.specs.Texts.{foundSlashes}
 use Rattle.rules.proofs.TestLaws.{by-case}
 use Rattle.rules.proofs.TextsLaws.{extent-le}
-use borrow.Author.Needs.{needs}
 use Rattle.rules.proofs.texts.directories_end.Statement.{statement}
 use Rattle.rules.proofs.texts.directories_end.Tie as tie
 
@@ -16,13 +17,17 @@ enum-known-found : tie.Need-enum-known-found
 enum-known-found c = search needs
 
 slashes-end-requires : tie.Need-slashes-end-requires
-slashes-end-requires c κs = omega (arith, extent-le _ _ (taggedIn _ _ _) (c .before .before .before .find-entry .ensures) (c .before .found .given .1))
+slashes-end-requires c κs =
+    let at-find = c .before .before .before in
+    omega (arith, extent-le _ _ (taggedIn _ _ _) (at-find .find-entry .ensures) (c .before .found .given .1))
 
 enum-told : tie.Need-enum-told
 enum-told c = search needs
 
 returns : tie.Need-returns
-returns c = by-case (foundSlashes _) (entryFor _ _ (taggedIn _ _ _)) (search) (c .before .before .found .given .1) (c .slashes-end .ensures)
+returns c =
+    by-case (foundSlashes _) (entryFor _ _ (taggedIn _ _ _)) (search) (c .before .before .found .given .1)
+    (c .slashes-end .ensures)
 
 returns-2 : tie.Need-returns-2
 returns-2 c = by-case (foundSlashes _) (entryFor _ _ (taggedIn _ _ _)) (search) (c .enum-told .given .1) refl

@@ -1,6 +1,7 @@
-use Rattle.rules.proofs.TextsLaws as laws
--- By whether a record has the tag. Assumes nothing.
+-- By whether a record has the tag.
+-- Assumes nothing.
 use borrow.Author.Needs.{needs}
+use Rattle.rules.proofs.TextsLaws as laws
 use Rattle.rules.proofs.texts.indexes_below.Statement.{statement}
 use Rattle.rules.proofs.texts.indexes_below.Tie as tie
 

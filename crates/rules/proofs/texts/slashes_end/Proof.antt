@@ -1,18 +1,20 @@
--- The bytes that are left decide, with the byte before them. Assumes nothing.
-use mathlib.Core.Logic.{⊎-elim}
-use borrow.Author.Needs.{needs}
-use mathlib.Core.Path.{_≡_}
+-- The bytes that are left decide, with the byte before them.
+-- Assumes nothing.
 use Prim.Native.Nat.{_+_}
+use mathlib.Core.Logic.{⊎-elim}
+use mathlib.Core.Path.{_≡_}
+use borrow.Author.Needs.{needs}
 use Rattle.rules.specs.Texts.{slashesEnd}
 use Rattle.rules.proofs.TextsLaws as laws
 use Rattle.rules.proofs.texts.slashes_end.Statement.{statement}
 use Rattle.rules.proofs.texts.slashes_end.Tie as tie
 
 abbrev Inv-loop : tie.InvT-loop
-Inv-loop pkg n at last₀ left₀ i₀ last left i = (i + left ≡ at + n) × (slashesEnd pkg 0 n at ≡ slashesEnd pkg last left i)
+Inv-loop pkg n at last₀ rest₀ i₀ last rest i = (i + rest ≡ at + n)
+    × (slashesEnd pkg 0 n at ≡ slashesEnd pkg last rest i)
 
 abbrev μ-loop : tie.MeasureT-loop
-μ-loop pkg n at last₀ left₀ i₀ last left i = left
+μ-loop pkg n at last₀ rest₀ i₀ last rest i = rest
 
 loop-holds : tie.Need-loop-holds Inv-loop μ-loop
 loop-holds c = search needs
@@ -26,8 +28,8 @@ returns c = search laws.slash-ends
 add-i : tie.Need-add-i Inv-loop μ-loop
 add-i c = search needs
 
-sub-left : tie.Need-sub-left Inv-loop μ-loop
-sub-left c = search needs
+sub-rest : tie.Need-sub-rest Inv-loop μ-loop
+sub-rest c = search needs
 
 loop-less : tie.Need-loop-less Inv-loop μ-loop
 loop-less c = search needs
@@ -48,7 +50,7 @@ slashes-end-spec =
     byte-at-requires
     returns
     add-i
-    sub-left
+    sub-rest
     loop-less
     loop-again
     returns-2)

@@ -1,9 +1,10 @@
--- By whether a record has the tag. Assumes nothing.
+-- By whether a record has the tag.
+-- Assumes nothing.
 use mathlib.Core.Path.{refl}
+use borrow.Author.Needs.{needs}
 use Rattle.structure.specs.Lookup.{taggedIn, entryFor}
 use Rattle.rules.specs.Texts.{foundText}
 use Rattle.rules.proofs.TestLaws.{by-case}
-use borrow.Author.Needs.{needs}
 use Rattle.rules.proofs.texts.text_is.Statement.{statement}
 use Rattle.rules.proofs.texts.text_is.Tie as tie
 
@@ -23,7 +24,9 @@ enum-told : tie.Need-enum-told
 enum-told c = search needs
 
 returns : tie.Need-returns
-returns c = by-case (foundText _ _) (entryFor _ _ (taggedIn _ _ _)) (search) (c .before .before .before .found .given .1) (rw (c .before .part .ensures) at (c .same .ensures))
+returns c =
+    by-case (foundText _ _) (entryFor _ _ (taggedIn _ _ _)) (search) (c .before .before .before .found .given .1)
+    (rw (c .before .part .ensures) at (c .same .ensures))
 
 returns-2 : tie.Need-returns-2
 returns-2 c = by-case (foundText _ _) (entryFor _ _ (taggedIn _ _ _)) (search) (c .enum-told .given .1) refl
