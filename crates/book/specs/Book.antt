@@ -1,7 +1,7 @@
 -- Document 01, "Book" and checks 19 to 22, for the kinds that an edition knows.
 use Prim.Native.Nat.{ℕ, zero, suc, _+_}
 use mathlib.Core.List.{List, [], _∷_}
-use mathlib.Core.Bool.{Bool, true, false, cond, not, _&&_, _||_}
+use mathlib.Core.Bool.{Bool, true, cond, _&&_}
 use lib.ListN.{length, getD}
 use lib.Dec.{leb}
 use Rattle.be.specs.Numbers.{be16At, be32At}

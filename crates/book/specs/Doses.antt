@@ -1,8 +1,7 @@
 -- Document 01, "Book": the doses of a book, which do not depend on the edition, and their numbers in a buffer.
-use Prim.Native.Nat.{ℕ, _+_, _*_, _/_, _%_}
+use Prim.Native.Nat.{ℕ, _+_, _/_, _%_}
 use mathlib.Core.List.{List, [], _∷_, _++_}
-use mathlib.Core.Path.{_≡_}
-use mathlib.Core.Bool.{Bool, cond}
+use mathlib.Core.Bool.{cond}
 use lib.ListN.{length}
 use lib.Seq.{sets}
 use Rattle.format.specs.declared.verdict.Verdict.{Verdict}

@@ -1,7 +1,7 @@
 -- The book's records at two sets of kinds: equal verdicts, or the earlier stops with 20 at the first record that it lacks.
 use Prim.Native.Nat.{ℕ}
-use mathlib.Core.Path.{_≡_, refl, sym, ap, _∙_}
-use mathlib.Core.Logic.{_⊎_, inl, inr, ⊎-elim}
+use mathlib.Core.Path.{_≡_, refl, sym}
+use mathlib.Core.Logic.{_⊎_, inl, inr}
 use mathlib.Core.List.{List, [], _∷_}
 use mathlib.Core.Bool.{Bool, true, false, cond, not, _&&_}
 use native.Mathlib.Omega.{arith}
@@ -10,8 +10,8 @@ use Rattle.format.specs.declared.verdict.Verdict.the-variants.{Pass, Fail}
 use Rattle.format.specs.Verdicts.{check, both}
 use Rattle.format.proofs.VerdictLaws.{both-fail, both-inverted, inverted}
 use Rattle.book.specs.Kinds.{isWeighed}
-use Rattle.book.specs.Book.{kindAt, kindAllowed, recordCheck, recordsCheck}
-use Rattle.demands.specs.Demands.{Lacking, First, NoneLacks, lacks, firstLacking}
+use Rattle.book.specs.Book.{kindAt, recordCheck, recordsCheck}
+use Rattle.demands.specs.Demands.{First, NoneLacks, lacks, firstLacking}
 
 -- a kind that is lacked is not allowed, and any other is
 not-allowed : (w k : Bool) → (w && not k) ≡ true → cond w k true ≡ false

@@ -1,11 +1,9 @@
 -- Two readings of one package, at editions 1 and 2: read-both.
-use mathlib.Core.Path.{_≡_, sym, ap}
+use mathlib.Core.Path.{_≡_}
 use mathlib.Core.List.{List}
 use Prim.Native.Nat.{ℕ}
-use lib.ListN.{length}
 use Rattle.format.specs.declared.verdict.Answer.{Answer}
-use Rattle.reading.specs.Reading.{readAnswer}
-use Rattle.reading.specs.Buffers.{bufferAfter, Read}
+use Rattle.reading.specs.Buffers.{Read}
 use Rattle.demands.specs.Demands.{EditionsAgree, ReadBoth}
 use Rattle.demands.proofs.Demand3.{demand3}
 

@@ -21,7 +21,7 @@ use Rattle.reading.specs.Reading.{readingCheck}
 use Rattle.demands.specs.Lawful.{WhereTagged, LawfulLead, LawfulStructure, LawfulLines}
 use Rattle.demands.specs.Lawful.{LawfulGroups, LawfulTexts, LawfulBook, LawfulPackage}
 use Rattle.demands.specs.Demands.{Demand2}
-use Rattle.demands.proofs.AnswerLaws.{done}
+use Rattle.reading.proofs.AnswerLaws.{done}
 use Rattle.demands.proofs.PassIff.{check-iff, last-iff, both-iff, then-iff}
 use Rattle.demands.proofs.PackageLawful.{sound-lawful}
 use Rattle.demands.proofs.FoundLawful.{Apart}

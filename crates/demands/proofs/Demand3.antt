@@ -1,28 +1,27 @@
 -- Demand 3 for editions 1 and 2, an instance of extending-agrees: demand3.
-use Prim.Native.Nat.{ℕ, _≤_, _<_}
+use Prim.Native.Nat.{ℕ}
 use mathlib.Core.Path.{_≡_, refl, sym, ap, _∙_}
-use mathlib.Core.Logic.{_⊎_, inl, inr, ⊎-elim}
+use mathlib.Core.Logic.{_⊎_, inl, inr}
 use mathlib.Core.List.{List}
-use mathlib.Core.Bool.{Bool, true, false, not, _&&_, _||_}
+use mathlib.Core.Bool.{Bool, true, false, _&&_, _||_}
 use lib.ListN.{length}
 use lib.Dec.{eqb, leb}
 use native.Mathlib.Omega.{arith}
-use borrow.Author.Tests.{le-leb, lt-leb, leb-true, leb-false, eqb-true, eq-eqb}
+use borrow.Author.Tests.{le-leb, leb-true, leb-false, eqb-true}
 use Rattle.format.specs.declared.verdict.Verdict.{Verdict}
 use Rattle.format.specs.declared.verdict.Verdict.the-variants.{Pass, Fail}
-use Rattle.format.specs.declared.verdict.Answer.{Answer}
 use Rattle.format.specs.declared.verdict.Answer.the-variants.{Done, Refused}
 use Rattle.format.specs.Verdicts.{check, both}
 use Rattle.catalogue.specs.declared.Line.{Line}
-use Rattle.catalogue.specs.Catalogue.{signatureLines, headerLines, catalogue, every, lineAt, lineCount, inEdition}
+use Rattle.catalogue.specs.Catalogue.{signatureLines, headerLines, catalogue, every, lineAt, lineCount}
 use Rattle.catalogue.proofs.CatalogueLaws.{each-line, past}
 use Rattle.book.specs.Kinds.{isKnown}
 use Rattle.book.specs.Doses.{doses}
-use Rattle.reading.specs.Editions.{Edition, Extends, editionOf, batchTag, batchLine, oldOrBatch}
+use Rattle.reading.specs.Editions.{Extends, editionOf, batchTag, oldOrBatch}
 use Rattle.reading.specs.Reading.{editionCheck, bookOf, checksAt, readingCheck, answerAs, readAnswer}
 use Rattle.reading.specs.Buffers.{bufferAfter}
-use Rattle.demands.specs.Demands.{Lacking, First, NoneLacks, lackingIn, Adds, ByAdded, VerdictsAgree, ByBatch, EditionsAgree, Demand3}
-use Rattle.demands.proofs.AnswerLaws.{done, refused}
+use Rattle.demands.specs.Demands.{Adds, ByAdded, VerdictsAgree, ByBatch, Demand3}
+use Rattle.reading.proofs.AnswerLaws.{done, refused}
 use Rattle.demands.proofs.EditionTheorems.{extending-agrees}
 
 kinds-kept : (a b c d : Bool) → ((a && true) || (b && true) || (c && false) || (d && false)) ≡ true

@@ -1,6 +1,6 @@
 -- Demand 3 in general: extending-agrees. Agreement of two editions, block by block.
 use Prim.Native.Nat.{ℕ, zero, suc, _+_, _-_}
-use mathlib.Core.Path.{_≡_, refl, sym, ap, _∙_}
+use mathlib.Core.Path.{_≡_, refl, sym, _∙_}
 use mathlib.Core.Logic.{_⊎_, inl, inr}
 use mathlib.Core.List.{List}
 use mathlib.Core.Bool.{Bool, true, false, cond}
@@ -20,8 +20,8 @@ use Rattle.rules.specs.Rules.{rulesCheck}
 use Rattle.book.specs.Book.{places, bookCheck}
 use Rattle.book.specs.Doses.{doses, sumOf}
 use Rattle.reading.specs.Editions.{Edition, Extends, hasBatch, batchTag, batchLine}
-use Rattle.reading.specs.Reading.{bookIn, bookOf, sumCheck, bookPart, openedCheck, checksAt}
-use Rattle.demands.specs.Demands.{Lacking, First, NoneLacks, lackingIn, Adds, ByAdded, VerdictsAgree, ExtendingAgrees}
+use Rattle.reading.specs.Reading.{bookOf, sumCheck, bookPart, openedCheck, checksAt}
+use Rattle.demands.specs.Demands.{First, NoneLacks, lackingIn, ByAdded, ExtendingAgrees}
 use Rattle.demands.proofs.AgreementLaws.{Agree, same-first, agree-both}
 use Rattle.demands.proofs.BookAgreement.{records-agree, passed-none}
 use Rattle.demands.proofs.LineAgreement.{line-agrees}

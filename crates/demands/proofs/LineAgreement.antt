@@ -1,6 +1,6 @@
 -- The catalogue's lines at two editions: equal verdicts, or the later stops with 14 or 15 at a line that it adds.
-use Prim.Native.Nat.{ℕ, zero, suc, _+_}
-use mathlib.Core.Path.{_≡_, refl, sym, ap, _∙_}
+use Prim.Native.Nat.{ℕ}
+use mathlib.Core.Path.{_≡_, refl, sym, _∙_}
 use mathlib.Core.Logic.{_⊎_, inl, inr}
 use mathlib.Core.List.{List}
 use mathlib.Core.Bool.{Bool, true, false, cond, not}
@@ -8,13 +8,13 @@ use native.Mathlib.Omega.{arith}
 use Rattle.format.specs.declared.places.Section.{Section}
 use Rattle.format.specs.declared.verdict.Verdict.{Verdict}
 use Rattle.format.specs.declared.verdict.Verdict.the-variants.{Pass, Fail}
-use Rattle.format.specs.Verdicts.{check, both}
+use Rattle.format.specs.Verdicts.{check}
 use Rattle.structure.specs.declared.lookup.Tagged.{Tagged}
 use Rattle.structure.specs.declared.lookup.Tagged.the-variants.{Present, Absent}
 use Rattle.structure.specs.Lookup.{taggedIn}
 use Rattle.catalogue.specs.declared.Line.{Line}
-use Rattle.catalogue.specs.Catalogue.{isRequired, isAsLine, lineAt}
-use Rattle.rules.specs.Lines.{lineCheckAs, lineCheck, lineIf, linesFrom}
+use Rattle.catalogue.specs.Catalogue.{isRequired, isAsLine}
+use Rattle.rules.specs.Lines.{lineCheckAs, lineCheck, lineIf}
 
 -- a line's own verdict passes, or is 14 or 15 with its tag
 tried : (ok : Bool) (number place : ℕ) → (check ok number place Pass ≡ Pass) ⊎ (check ok number place Pass ≡ Fail number place)

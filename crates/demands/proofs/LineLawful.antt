@@ -1,5 +1,5 @@
 -- Checks 14 and 15 pass exactly on lawful lines: lines-lawful.
-use Prim.Native.Nat.{ℕ, zero, suc, _+_, _-_, _≤_, _<_}
+use Prim.Native.Nat.{ℕ, zero, suc, _+_, _≤_, _<_}
 use mathlib.Core.Path.{_≡_, refl, sym}
 use mathlib.Core.Logic.{_↔_, Iff·rfl, _≢_, ⊎-elim}
 use mathlib.Core.List.{List}

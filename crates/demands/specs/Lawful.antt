@@ -2,15 +2,15 @@
 use Prim.Native.Nat.{ℕ, zero, suc, _+_, _-_, _*_, _%_, _≤_, _<_}
 use mathlib.Core.Path.{_≡_}
 use mathlib.Core.Logic.{_⊎_, _≢_}
-use mathlib.Core.List.{List, _∷_, [], _++_}
-use mathlib.Core.Bool.{Bool, true, false, cond}
+use mathlib.Core.List.{List, _∷_, []}
+use mathlib.Core.Bool.{Bool, true, cond}
 use lib.ListN.{length, getD, take, drop}
 use lib.Dec.{eqb}
 use Rattle.be.specs.Numbers.{be16At, be32At}
 use Rattle.format.specs.declared.places.Section.{Section}
 use Rattle.format.specs.declared.records.IndexRecord.{IndexRecord}
 use Rattle.format.specs.Sizes.{packageLimit, leadSize}
-use Rattle.format.specs.Places.{storePlace, inFile}
+use Rattle.format.specs.Places.{inFile}
 use Rattle.format.specs.Records.{headerRecordAt}
 use Rattle.structure.specs.declared.types.ElementSize.the-variants.{Bytes, ToZero}
 use Rattle.structure.specs.declared.lookup.Entry.{Entry}

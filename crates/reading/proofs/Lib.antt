@@ -1,2 +1,3 @@
 pub mod OpenedLaws
 pub mod DecideLaws
+pub mod AnswerLaws

@@ -1,7 +1,7 @@
 -- Document 01, "Catalogue", texts (check 18), in its order.
-use Prim.Native.Nat.{ℕ, zero, suc, _+_, _*_}
+use Prim.Native.Nat.{ℕ, zero, suc, _+_}
 use mathlib.Core.List.{List, [], _∷_}
-use mathlib.Core.Bool.{Bool, true, false, cond, _&&_}
+use mathlib.Core.Bool.{Bool, true, cond, _&&_}
 use lib.ListN.{getD, take, drop}
 use lib.Dec.{eqb, ltb}
 use Rattle.be.specs.Numbers.{be32At}
@@ -10,7 +10,6 @@ use Rattle.format.specs.declared.places.Section.{Section}
 use Rattle.format.specs.declared.verdict.Verdict.{Verdict}
 use Rattle.format.specs.declared.verdict.Verdict.the-variants.{Pass}
 use Rattle.format.specs.Verdicts.{check}
-use Rattle.structure.specs.declared.lookup.Entry.{Entry}
 use Rattle.structure.specs.declared.lookup.Found.{Found}
 use Rattle.structure.specs.declared.lookup.Found.the-variants.{At, Nothing}
 use Rattle.structure.specs.Lookup.{taggedIn, entryFor}

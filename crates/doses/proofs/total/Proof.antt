@@ -1,57 +1,50 @@
+use Prim.Native.Nat.{_+_}
+-- Each number is below 2^32, and there are few. Assumes nothing.
+use borrow.Author.Needs.{needs}
+use Prim.Native.Nat.{_≤_, _-_, _*_}
+use native.Mathlib.Omega.{arith}
+use lib.ListN.{length}
 use Rattle.doses.proofs.total.Statement.{statement}
 use Rattle.doses.proofs.total.Tie as tie
-use Rattle.doses.proofs.total.Reads as reads
-use Rattle.doses.proofs.total.Lts as lts
 
 abbrev Inv-loop : tie.InvT-loop
-Inv-loop numbers sum₀ i₀ sum i = ?
+Inv-loop numbers sum₀ i₀ sum i = (i ≤ length numbers) × (sum ≤ 4294967296 * i)
 
 abbrev μ-loop : tie.MeasureT-loop
-μ-loop numbers sum₀ i₀ sum i = ?
+μ-loop numbers sum₀ i₀ sum i = length numbers - i
 
--- src/main.rt:36:5
 loop-holds : tie.Need-loop-holds Inv-loop μ-loop
-loop-holds c = ?
+loop-holds c = search needs
 
--- src/main.rt:36:11
 add-loop : tie.Need-add-loop Inv-loop μ-loop
-add-loop c = ?
+add-loop c = search needs
 
--- src/main.rt:37:26
 add-milligrams : tie.Need-add-milligrams Inv-loop μ-loop
-add-milligrams c = ?
+add-milligrams c = search needs
 
--- src/main.rt:38:16
 mul-sum : tie.Need-mul-sum Inv-loop μ-loop
-mul-sum c = ?
+mul-sum c = search needs
 
--- src/main.rt:38:16
 shared-slice-read-sum : tie.Need-shared-slice-read-sum Inv-loop μ-loop
-shared-slice-read-sum c = ?
+shared-slice-read-sum c = search needs
 
--- src/main.rt:38:16
 cast-sum : tie.Need-cast-sum Inv-loop μ-loop
-cast-sum c = ?
+cast-sum c = omega (arith, c .shared-slice-known .given (c .before .before .loop .i + 1))
 
--- src/main.rt:38:9
 add-sum : tie.Need-add-sum Inv-loop μ-loop
-add-sum c = ?
+add-sum c = omega (arith, c .shared-slice-known .given (c .before .before .loop .i + 1))
 
--- src/main.rt:39:9
 add-i : tie.Need-add-i Inv-loop μ-loop
-add-i c = ?
+add-i c = search needs
 
--- src/main.rt:36:5
 loop-less : tie.Need-loop-less Inv-loop μ-loop
-loop-less c = ?
+loop-less c = search needs
 
--- src/main.rt:36:5
 loop-again : tie.Need-loop-again Inv-loop μ-loop
-loop-again c = ?
+loop-again c = omega (arith, c .shared-slice-known .given (c .before .before .loop .i + 1))
 
--- src/main.rt:31:1
 returns : tie.Need-returns Inv-loop μ-loop
-returns c = ?
+returns c = search needs
 
 pub total-spec : {M : Type 1} → statement M
 total-spec =

@@ -4,24 +4,16 @@ use Rattle.format.specs.Verdicts.{packedOf}
 use borrow.Author.Needs.{needs}
 use Rattle.station.proofs.station_read.Statement.{statement}
 use Rattle.station.proofs.station_read.Tie as tie
-use Rattle.station.proofs.station_read.Reads as reads
-use Rattle.station.proofs.station_read.Lts as lts
-use Rattle.format.proofs.verdict.Answer.packed.Reads as packed-reads
-use Rattle.reading.proofs.read_bytes.Reads as read-bytes-reads
 
--- src/lib.rt:35:5
 read-bytes-requires : tie.Need-read-bytes-requires
 read-bytes-requires c κs = search needs
 
--- src/lib.rt:35:5
 packed-requires : tie.Need-packed-requires
 packed-requires c κs = search needs
 
--- src/lib.rt:31:1
 same-length : tie.Need-same-length
 same-length c = search needs
 
--- src/lib.rt:31:1
 returns : tie.Need-returns
 returns c = record { answered = c .packed .ensures ∙ ap packedOf (c .before .before .before .read-bytes .ensures .answered); buffer = c .before .before .before .read-bytes .ensures .buffer }
 

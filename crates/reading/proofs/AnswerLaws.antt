@@ -1,0 +1,36 @@
+-- What an answer says of the verdict and of the buffer's room.
+use Prim.Native.Nat.{ℕ, _*_, _≤_}
+use mathlib.Core.Path.{_≡_, refl, sym, _∙_}
+use mathlib.Core.List.{List}
+use lib.ListN.{length}
+use native.Mathlib.Omega.{arith}
+use borrow.Author.Tests.{leb-true}
+use Rattle.format.specs.declared.verdict.Verdict.{Verdict}
+use Rattle.format.specs.declared.verdict.Verdict.the-variants.{Pass, Fail}
+use Rattle.format.specs.declared.verdict.Answer.{Answer}
+use Rattle.format.specs.declared.verdict.Answer.the-variants.{Done, Refused}
+use Rattle.format.proofs.VerdictLaws.{inverted, both-inverted}
+use Rattle.book.specs.Doses.{doses}
+use Rattle.reading.specs.Reading.{bookOf, needed, roomCheck, bookPart, openedCheck, checksAt, readingCheck, answerAs, readAnswer}
+
+pub done : (v : Verdict) (count : ℕ) {n : ℕ} → answerAs v count ≡ Done n → (v ≡ Pass) × (n ≡ count)
+done Pass count h = (refl, cc)
+done (Fail number place) count h = let z : _≡_ {A = ℕ} 0 1 = cc in absurd (omega arith)
+
+pub refused : (v : Verdict) (count : ℕ) {n p : ℕ} → answerAs v count ≡ Refused n p → v ≡ Fail n p
+refused Pass count h = let z : _≡_ {A = ℕ} 0 1 = cc in absurd (omega arith)
+refused (Fail number place) count h = cc
+
+-- where the reading passes, the buffer has room
+pub pass-room : (edition : ℕ) (s : List ℕ) (room : ℕ) → readingCheck edition s room ≡ Pass → needed (bookOf s) ≤ room
+unfolding readingCheck checksAt openedCheck bookPart roomCheck
+pass-room edition s room h =
+    let k = both-inverted _ _ (both-inverted _ _ (both-inverted _ _ (both-inverted _ _ h .1) .1) .1) in
+    leb-true _ _ (inverted _ _ _ _ (both-inverted _ _ (k .1) .1) .0)
+
+pub answer-room : (edition : ℕ) (s : List ℕ) (room : ℕ) {answer : Answer} {count : ℕ} → answer ≡ readAnswer edition s room
+    → answer ≡ Done count → 2 * count ≤ room
+answer-room edition s room p h =
+    let k = done (readingCheck edition s room) (length (doses (bookOf s))) (sym p ∙ h) in
+    let r = pass-room edition s room (k .0) in
+    omega arith
