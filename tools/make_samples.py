@@ -3,7 +3,7 @@
 import pathlib
 import struct
 
-from rpmfile import BIN, INT16, INT32, STRING, STRINGS, lead, package, raw, structure
+from rpmfile import BIN, INT16, INT32, STRING, STRINGS, accepted, lead, package, raw, structure
 
 OUT = pathlib.Path('crates/samples/data')
 SIGNATURE = structure([(1000, INT32, [1250])])
@@ -74,8 +74,43 @@ SAMPLES = {
     'store8_string_at_7': header((1, STRING, 7, 1), b'1234567\0'),
 }
 
+DOSE = bytes.fromhex('86001B000004E2')
+
+
+def book(text):
+    return accepted(bytes.fromhex(text))
+
+
+READINGS = {
+    'book_example': book('02 0007 86 001B 000004E2'),
+    'book_no_doses': book('00'),
+    'book_most_milligrams': book('86 001B 004C4B40'),
+    'book_two_kinds': book('86 001B 000004E2 14 00000000 98 0001 00000001 0005'),
+    'book_limit': accepted(DOSE * 585 + b'\0'),
+    'check14_signature_1000': accepted(DOSE, signature={}, header={}).replace(struct.pack('>4I', 1000, 4, 0, 1), struct.pack('>4I', 999, 4, 0, 1), 1),
+    'check14_20001': accepted(DOSE, drop=[20001]),
+    'check14_20002': accepted(DOSE, drop=[20002]),
+    'check15_20002_type': accepted(DOSE, header={20002: (BIN, struct.pack('>I', 1250))}),
+    'check16_whole_length': accepted(DOSE, signature={1000: (INT32, [2000])}),
+    'check17_digest_alone': accepted(DOSE, signature={1011: (BIN, b'1')}),
+    'check17_leader_missing': accepted(DOSE, header={1080: (INT32, [0]), 1082: (STRINGS, [b''])}),
+    'check17_old_names': accepted(DOSE, header={1027: (STRINGS, [b'/book'])}),
+    'check18_system': accepted(DOSE, header={1021: (STRING, b'linuxx')}),
+    'check18_index': accepted(DOSE, header={1116: (INT32, [1])}),
+    'check18_directory': accepted(DOSE, header={1118: (STRINGS, [b'/usr/share'])}),
+    'check19_4097_bytes': accepted(DOSE * 585 + b'\0\0'),
+    'check20_kind_96': book('96'),
+    'check20_kind_80': book('80'),
+    'check21_kind_7f': book('7F'),
+    'check21_date_cut': book('14 0000'),
+    'check22_oxide_0': book('86 0000 000004E2'),
+    'check22_oxide_1000': book('86 03E8 000004E2'),
+    'check22_milligrams': book('86 001B 004C4B41'),
+    'check23_sum': accepted(DOSE, batch=1249),
+}
+
 if __name__ == '__main__':
     OUT.mkdir(parents=True, exist_ok=True)
-    for name, bits in SAMPLES.items():
+    for name, bits in {**SAMPLES, **READINGS}.items():
         (OUT / name).write_bytes(bits)
-    print(len(SAMPLES), 'samples in', OUT)
+    print(len(SAMPLES) + len(READINGS), 'samples in', OUT)

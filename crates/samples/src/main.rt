@@ -1,4 +1,5 @@
-// Runs document 01's bench samples: each package of data/ is looked up, and the answer is written as `NUMBER at PLACE`.
+// Runs document 01's bench samples: each package of data/ is looked up or read, and the answer is written as
+// `NUMBER at PLACE`.
 use format::Answer;
 use libc::STDOUT_FILENO;
 
@@ -30,6 +31,25 @@ fn find(name: &[u8], tag: u32, ty: u32) {
     libc::close(file);
     let answer = package::find_answer(&pkg[..n], 1, tag, ty);
     io::write_all(STDOUT_FILENO, name);
+    io::write_all(STDOUT_FILENO, b": ");
+    show(answer);
+}
+
+// Reads a package at an edition, with room for any book's doses, and writes the package's name, the edition and the answer.
+fn read(name: &[u8], edition: u32) {
+    let file = os::open_read(name);
+    if file < 0 {
+        os::fail(name);
+        return;
+    }
+    let mut pkg = [0u8; 65537];
+    let n = io::read_full(file, &mut pkg);
+    libc::close(file);
+    let mut doses = [0u32; 8192];
+    let answer = reading::read(edition, &pkg[..n], &mut doses);
+    io::write_all(STDOUT_FILENO, name);
+    io::write_all(STDOUT_FILENO, b" at edition ");
+    io::print_decimal(STDOUT_FILENO, edition as u64);
     io::write_all(STDOUT_FILENO, b": ");
     show(answer);
 }
@@ -88,9 +108,54 @@ fn records() {
     find(b"store8_string_at_7", 1, 6);
 }
 
+fn books() {
+    read(b"book_example", 0);
+    read(b"book_example", 1);
+    read(b"book_example", 2);
+    read(b"book_example", 3);
+    read(b"book_no_doses", 2);
+    read(b"book_most_milligrams", 2);
+    read(b"book_two_kinds", 1);
+    read(b"book_two_kinds", 2);
+    read(b"book_limit", 2);
+}
+
+fn rules() {
+    read(b"check14_signature_1000", 2);
+    read(b"check14_20001", 2);
+    read(b"check14_20002", 1);
+    read(b"check14_20002", 2);
+    read(b"check15_20002_type", 1);
+    read(b"check15_20002_type", 2);
+    read(b"check16_whole_length", 2);
+    read(b"check17_digest_alone", 2);
+    read(b"check17_leader_missing", 2);
+    read(b"check17_old_names", 2);
+    read(b"check18_system", 2);
+    read(b"check18_index", 2);
+    read(b"check18_directory", 2);
+}
+
+fn book_records() {
+    read(b"check19_4097_bytes", 2);
+    read(b"check20_kind_96", 2);
+    read(b"check20_kind_80", 2);
+    read(b"check21_kind_7f", 2);
+    read(b"check21_date_cut", 1);
+    read(b"check21_date_cut", 2);
+    read(b"check22_oxide_0", 2);
+    read(b"check22_oxide_1000", 2);
+    read(b"check22_milligrams", 2);
+    read(b"check23_sum", 1);
+    read(b"check23_sum", 2);
+}
+
 fn main() {
     packages();
     leads();
     structures();
     records();
+    books();
+    rules();
+    book_records();
 }
