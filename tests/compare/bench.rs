@@ -1,12 +1,13 @@
 //! Puts packages before the library and the reference, and compares.
 
 use std::collections::BTreeMap;
-use std::ffi::c_void;
 use std::fmt;
 use std::path::PathBuf;
 use std::process::exit;
 use std::ptr;
 use std::sync::atomic::{AtomicPtr, Ordering};
+
+use crate::fence::Fence;
 
 extern "C" {
     fn station_find(package: *const u8, len: usize, structure: u32, tag: u32, ty: u32) -> u64;
@@ -20,69 +21,15 @@ extern "C" {
     ) -> u64;
 
     // libc, on Linux.
-    fn mmap(
-        at: *mut c_void,
-        len: usize,
-        prot: i32,
-        flags: i32,
-        fd: i32,
-        offset: i64,
-    ) -> *mut c_void;
-    fn mprotect(at: *mut c_void, len: usize, prot: i32) -> i32;
     fn signal(number: i32, handler: extern "C" fn(i32)) -> usize;
     fn alarm(seconds: u32) -> u32;
 }
 
-const PROT_NONE: i32 = 0;
-const PROT_READ: i32 = 1;
-const PROT_WRITE: i32 = 2;
-const MAP_PRIVATE_ANONYMOUS: i32 = 0x22;
 const SIGILL: i32 = 4;
 const SIGABRT: i32 = 6;
 const SIGBUS: i32 = 7;
 const SIGSEGV: i32 = 11;
 const SIGALRM: i32 = 14;
-
-/// The largest package that is tried.
-pub const ROOM: usize = 1 << 20;
-const PAGE: usize = 4096;
-
-/// Memory that ends right before a page that faults.
-struct Fence(*mut u8);
-
-impl Fence {
-    fn new() -> Fence {
-        unsafe {
-            let all = mmap(
-                ptr::null_mut(),
-                ROOM + PAGE,
-                PROT_READ | PROT_WRITE,
-                MAP_PRIVATE_ANONYMOUS,
-                -1,
-                0,
-            );
-            assert!(all as isize != -1, "mmap");
-            let base = all as *mut u8;
-            let guarded = mprotect(base.add(ROOM).cast(), PAGE, PROT_NONE);
-            assert!(guarded == 0, "mprotect");
-            Fence(base)
-        }
-    }
-
-    /// A copy of the bytes, read-only, that ends at the fence.
-    fn lend(&self, bytes: &[u8]) -> *const u8 {
-        assert!(bytes.len() <= ROOM);
-        let pages = bytes.len().next_multiple_of(PAGE);
-        unsafe {
-            let first = self.0.add(ROOM - pages).cast();
-            let at = self.0.add(ROOM - bytes.len());
-            assert!(mprotect(first, pages, PROT_READ | PROT_WRITE) == 0);
-            ptr::copy_nonoverlapping(bytes.as_ptr(), at, bytes.len());
-            assert!(mprotect(first, pages, PROT_READ) == 0);
-            at
-        }
-    }
-}
 
 /// A look-up to ask for; `element` is `None` for a whole entry.
 #[derive(Clone, Copy, Debug)]
@@ -102,6 +49,15 @@ impl Question {
             None => unsafe { station_find(package, len, structure, tag, ty) },
             Some(n) => unsafe { station_find_element(package, len, structure, tag, ty, n) },
         })
+    }
+
+    fn numbers(self) -> Vec<u64> {
+        let numbers = [self.structure, self.tag, self.ty];
+        numbers
+            .into_iter()
+            .chain(self.element)
+            .map(u64::from)
+            .collect()
     }
 
     fn reference(self, package: &[u8]) -> Answer {
@@ -124,14 +80,18 @@ impl Answer {
         Answer((u64::from(number) << 32) + place as u64)
     }
 
-    fn number(self) -> u32 {
+    pub fn number(self) -> u32 {
         (self.0 >> 32) as u32
+    }
+
+    pub fn place(self) -> u32 {
+        self.0 as u32
     }
 }
 
 impl fmt::Display for Answer {
     fn fmt(&self, f: &mut fmt::Formatter) -> fmt::Result {
-        write!(f, "{} at {}", self.number(), self.0 as u32)
+        write!(f, "{} at {}", self.number(), self.place())
     }
 }
 
@@ -141,13 +101,14 @@ struct Current {
     case: usize,
     note: &'static str,
     package: Vec<u8>,
-    question: Option<Question>,
+    /// This program's command that asks again, and the numbers behind the package.
+    again: Option<(&'static str, Vec<u64>)>,
     report: PathBuf,
 }
 
 pub struct Bench {
     fence: Fence,
-    lent: *const u8,
+    pub lent: *const u8,
     current: Box<Current>,
     pub packages: usize,
     pub comparisons: usize,
@@ -174,14 +135,11 @@ fn fail(current: &Current, difference: &str) -> ! {
     } = current;
     eprintln!("compare: DIFFERENCE in \"{family}\", package {case} ({note})");
     eprintln!("{difference}");
-    if let Some(q) = current.question {
+    if let Some((command, numbers)) = &current.again {
         let report = current.report.display();
-        let mut again = format!("ask {report} {} {} {}", q.structure, q.tag, q.ty);
-        if let Some(element) = q.element {
-            again += &format!(" {element}");
-        }
+        let numbers: Vec<String> = numbers.iter().map(u64::to_string).collect();
         match std::fs::write(&current.report, &current.package) {
-            Ok(()) => eprintln!("again: compare {again}"),
+            Ok(()) => eprintln!("again: compare {command} {report} {}", numbers.join(" ")),
             Err(error) => eprintln!("{report}: {error}"),
         }
     }
@@ -199,7 +157,7 @@ impl Bench {
                 case: 0,
                 note: "no note",
                 package: Vec::new(),
-                question: None,
+                again: None,
                 report,
             }),
             packages: 0,
@@ -227,8 +185,13 @@ impl Bench {
         self.current.note = "no note";
         self.current.package.clear();
         self.current.package.extend_from_slice(bytes);
-        self.current.question = None;
+        self.current.again = None;
         self.lent = self.fence.lend(bytes);
+    }
+
+    /// The package that was lent.
+    pub fn bytes(&self) -> &[u8] {
+        &self.current.package
     }
 
     /// A word on the package, for the report.
@@ -237,19 +200,31 @@ impl Bench {
     }
 
     /// Library and reference must agree; so must what is known by construction.
-    pub fn ask(&mut self, question: Question, known: Option<Answer>) -> Answer {
-        self.current.question = Some(question);
-        let package = &self.current.package;
+    pub fn ask(&mut self, question: Question, known: Option<Answer>) {
+        self.asks("ask", question.numbers());
+        let package = self.bytes();
         let reference = question.reference(package);
         let library = question.library(self.lent, package.len());
         if library != reference || known.is_some_and(|known| known != reference) {
             let known = known.map_or(String::new(), |known| format!(", known {known}"));
-            let answers = format!("library {library}, reference {reference}{known}");
-            fail(&self.current, &answers);
+            self.fail(&format!("library {library}, reference {reference}{known}"));
         }
+        self.agree(reference);
+    }
+
+    /// What is asked next, for the report.
+    pub fn asks(&mut self, command: &'static str, numbers: Vec<u64>) {
+        self.current.again = Some((command, numbers));
+    }
+
+    /// One more answer that agrees.
+    pub fn agree(&mut self, answer: Answer) {
         self.comparisons += 1;
-        *self.numbers.entry(reference.number()).or_default() += 1;
-        reference
+        *self.numbers.entry(answer.number()).or_default() += 1;
+    }
+
+    pub fn fail(&self, difference: &str) -> ! {
+        fail(&self.current, difference)
     }
 
     /// Asks for a whole entry and for one element.

@@ -1,7 +1,8 @@
 //! The cases that are made here, family by family.
 
-use crate::bench::{Answer, Bench, ROOM};
+use crate::bench::{Answer, Bench};
 use crate::damage;
+use crate::fence::ROOM;
 use crate::maker::{lead, size_of, Entry, Package, Structure, S};
 use crate::questions::*;
 use crate::random::Random;

@@ -3,13 +3,21 @@
 //!
 //!     compare DATA-FOLDER REPORT-FILE
 //!     compare ask PACKAGE STRUCTURE TAG TYPE [ELEMENT]
+//!     compare read PACKAGE EDITION BUFFER-LENGTH
+//!
+//! The reading is compared if `--cfg reading` is set.
 
 mod bench;
+#[cfg(reading)]
+mod content;
 mod damage;
 mod families;
+mod fence;
 mod maker;
 mod questions;
 mod random;
+#[cfg(reading)]
+mod reading;
 mod real;
 mod shapes;
 
@@ -19,14 +27,26 @@ use std::time::Instant;
 use bench::{show, Bench, Question};
 use random::Random;
 
-/// Every answer that the look-ups have.
-const NUMBERS: [u32; 15] = [0, 2, 3, 4, 5, 6, 7, 8, 9, 10, 11, 12, 13, 25, 26];
+/// Every answer that the calls have.
+const NUMBERS: &[u32] = if cfg!(reading) {
+    &[
+        0, 1, 2, 3, 4, 5, 6, 7, 8, 9, 10, 11, 12, 13, 14, 15, 16, 17, 18, 19, 20, 21, 22, 23, 24,
+        25, 26,
+    ]
+} else {
+    &[0, 2, 3, 4, 5, 6, 7, 8, 9, 10, 11, 12, 13, 25, 26]
+};
 const LEAST_COMPARISONS: usize = 100_000;
 
 fn main() {
     let words: Vec<String> = std::env::args().skip(1).collect();
     match &words[..] {
         [ask, package, numbers @ ..] if ask == "ask" => one(package, numbers),
+        #[cfg(reading)]
+        [read, package, edition, room] if read == "read" => {
+            let package = std::fs::read(package).unwrap();
+            reading::show(&package, edition.parse().unwrap(), room.parse().unwrap());
+        }
         [data, report] => all(Path::new(data), PathBuf::from(report)),
         _ => panic!("compare DATA-FOLDER REPORT-FILE"),
     }
@@ -51,6 +71,8 @@ fn all(data: &Path, report: PathBuf) {
         family(&mut bench, &mut Random::new(seed as u64));
     }
     real::asked_and_damaged(&mut bench, &mut Random::new(99), data);
+    #[cfg(reading)]
+    reading::all(&mut bench, data);
 
     let seconds = begun.elapsed().as_secs_f64();
     println!(

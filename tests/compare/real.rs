@@ -82,15 +82,20 @@ pub fn as_rpm_reads(bench: &mut Bench, data: &Path) -> usize {
     lines
 }
 
-/// Every record, then the packages with bytes changed and cut off.
-pub fn asked_and_damaged(bench: &mut Bench, random: &mut Random, data: &Path) {
-    bench.family("packages of other writers");
+/// The packages in tests/data.
+pub fn files(data: &Path) -> Vec<PathBuf> {
     let entries = std::fs::read_dir(data).expect("tests/data");
     let mut files: Vec<PathBuf> = entries.map(|entry| entry.unwrap().path()).collect();
     files.retain(|file| file.extension().is_some_and(|end| end == "rpm"));
     files.sort();
     assert!(!files.is_empty(), "no package in tests/data");
-    for file in files {
+    files
+}
+
+/// Every record, then the packages with bytes changed and cut off.
+pub fn asked_and_damaged(bench: &mut Bench, random: &mut Random, data: &Path) {
+    bench.family("packages of other writers");
+    for file in files(data) {
         let right = std::fs::read(file).unwrap();
         let records = records(&right);
         bench.package(&right);

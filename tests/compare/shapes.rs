@@ -64,7 +64,7 @@ pub fn shape(random: &mut Random, plan: &Plan) -> Shape {
 }
 
 /// A right lead whose free bytes are anything.
-fn free_lead(random: &mut Random) -> [u8; 96] {
+pub fn free_lead(random: &mut Random) -> [u8; 96] {
     let mut bytes = lead();
     let name = random.below(66);
     for at in (8..10 + name).chain(11 + name..76).chain(80..96) {

@@ -6,7 +6,7 @@
 #[path = "lib.rs"]
 mod reference;
 
-use std::slice::from_raw_parts;
+use std::slice::{from_raw_parts, from_raw_parts_mut};
 
 #[no_mangle]
 pub unsafe extern "C" fn station_find(
@@ -31,4 +31,17 @@ pub unsafe extern "C" fn station_find_element(
 ) -> u64 {
     let package = from_raw_parts(package, package_len);
     reference::answer(&reference::find_element(package, structure, tag, ty, element))
+}
+
+#[no_mangle]
+pub unsafe extern "C" fn station_read(
+    edition: u32,
+    package: *const u8,
+    package_len: usize,
+    doses: *mut u8,
+    doses_len: usize,
+) -> u64 {
+    let package = from_raw_parts(package, package_len);
+    let doses = from_raw_parts_mut(doses, doses_len);
+    reference::reading::read_for_c(edition, package, doses)
 }

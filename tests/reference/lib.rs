@@ -1,11 +1,20 @@
-//! The package rules of document 01 a second time, in ordinary Rust.
+//! The rules of document 01 a second time, in ordinary Rust.
 //!
 //! Written from the papers alone, to be compared with the proved library.
-//! The order is the paper's: lead, header structure, checks, look-ups.
+//! The order is the paper's: here lead, header structure, checks 2 to 13 and
+//! look-ups; then catalogue.rs, contents.rs (groups and texts), book.rs, and
+//! reading.rs, where all checks come together.
 //! Each check stands as `check(NUMBER, what must hold, place)`.
 
 use std::ops::Range;
 
+pub mod book;
+pub mod catalogue;
+mod contents;
+pub mod reading;
+
+#[cfg(test)]
+mod reading_samples;
 #[cfg(test)]
 mod samples;
 
@@ -34,12 +43,23 @@ fn check(number: u32, holds: bool, place: usize) -> Checked<()> {
     }
 }
 
-/// What C gets for a look-up: number × 2^32 + place.
+impl Refusal {
+    /// What C gets: number × 2^32 + place.
+    fn packed(self) -> u64 {
+        (u64::from(self.number) << 32) + u64::from(self.place)
+    }
+}
+
+/// What C gets for a look-up.
 pub fn answer(found: &Checked<Range<usize>>) -> u64 {
     match found {
         Ok(part) => part.start as u64,
-        Err(refusal) => (u64::from(refusal.number) << 32) + u64::from(refusal.place),
+        Err(refusal) => refusal.packed(),
     }
+}
+
+fn be16(bytes: &[u8], at: usize) -> u16 {
+    u16::from_be_bytes(bytes[at..at + 2].try_into().unwrap())
 }
 
 fn be32(bytes: &[u8], at: usize) -> u32 {
@@ -93,15 +113,18 @@ enum Elements {
     Strings,
 }
 
+const INT16: u32 = 3;
+const INT32: u32 = 4;
 const STRING: u32 = 6;
+const BIN: u32 = 7;
 const STRING_ARRAY: u32 = 8;
 const TRANSLATED_STRING: u32 = 9;
 
 fn elements(ty: u32) -> Option<Elements> {
     match ty {
-        1 | 2 | 7 => Some(Elements::Sized(1)),
-        3 => Some(Elements::Sized(2)),
-        4 => Some(Elements::Sized(4)),
+        1 | 2 | BIN => Some(Elements::Sized(1)),
+        INT16 => Some(Elements::Sized(2)),
+        INT32 => Some(Elements::Sized(4)),
         STRING | STRING_ARRAY | TRANSLATED_STRING => Some(Elements::Strings),
         _ => None,
     }
@@ -220,6 +243,11 @@ impl<'a> Structure<'a> {
             .find(|record| record.tag == tag && record.ty == ty)
     }
 
+    /// The record of a tag, whatever its type.
+    fn tagged(&self, tag: u32) -> Option<Record> {
+        self.records().find(|record| record.tag == tag)
+    }
+
     /// A part of the store as a part of the package.
     fn in_file(&self, part: Range<usize>) -> Range<usize> {
         self.store_place + part.start..self.store_place + part.end
@@ -230,6 +258,17 @@ impl<'a> Structure<'a> {
         self.store[record.offset as usize..]
             .split_inclusive(|&byte| byte == 0)
             .take(record.count as usize)
+    }
+
+    /// The data of a record that passed check 12.
+    fn data(&self, record: Record) -> &'a [u8] {
+        let part = record.data(self.store).expect("check 12 passed");
+        &self.store[part]
+    }
+
+    /// The numbers of an int32 record that passed check 12.
+    fn numbers(&self, record: Record) -> impl Iterator<Item = u32> + 'a {
+        self.data(record).chunks_exact(4).map(|four| be32(four, 0))
     }
 }
 

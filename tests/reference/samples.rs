@@ -1,8 +1,14 @@
 //! Document 01's bench samples and slips that belong to packages and look-ups.
 
+#[path = "../compare/content.rs"]
+#[allow(dead_code)]
+pub(super) mod content;
 #[path = "../compare/maker.rs"]
 #[allow(dead_code)]
-mod maker;
+pub(super) mod maker;
+#[path = "../compare/random.rs"]
+#[allow(dead_code)]
+mod random;
 
 use super::*;
 use maker::{Entry, Package, S};

@@ -1,0 +1,24 @@
+//! `station_read` against the reference, both editions of each case.
+
+mod accepted;
+mod books;
+mod damage;
+mod demand3;
+mod desk;
+mod families;
+
+use std::path::Path;
+
+use crate::bench::Bench;
+use crate::random::Random;
+pub use desk::show;
+use desk::Desk;
+
+pub fn all(bench: &mut Bench, data: &Path) {
+    demand3::try_out();
+    let mut desk = Desk::new(bench);
+    for (seed, family) in families::ALL.iter().enumerate() {
+        family(&mut desk, &mut Random::new(100 + seed as u64));
+    }
+    families::other_writers(&mut desk, &mut Random::new(199), data);
+}

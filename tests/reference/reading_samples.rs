@@ -1,0 +1,539 @@
+//! Document 01's bench samples and slips that belong to the reading.
+
+use super::catalogue::{Count, Line, Status, HEADER, SIGNATURE};
+use super::reading::{printed, read, read_for_c};
+use super::samples::content::{self, bin, strings, words, Content, Item};
+use super::*;
+
+type Doses<'a> = &'a [[u32; 2]];
+
+fn bytes(hex: &str) -> Vec<u8> {
+    let word = |word| u8::from_str_radix(word, 16).unwrap();
+    hex.split(' ').map(word).collect()
+}
+
+fn refused<T>(number: u32, place: u32) -> Checked<T> {
+    Err(Refusal { number, place })
+}
+
+/// The doses; behind them and on refusal the buffer stays as it was, in both forms.
+fn doses(edition: u32, package: &[u8]) -> Checked<Vec<[u32; 2]>> {
+    let mut numbers = [7; 1200];
+    let answer = read(edition, package, &mut numbers);
+    let written = 2 * answer.unwrap_or(0) as usize;
+    assert!(numbers[written..].iter().all(|&number| number == 7));
+
+    let mut bytes = vec![7; 4800];
+    let packed = read_for_c(edition, package, &mut bytes);
+    assert_eq!(packed, answer.map_or_else(Refusal::packed, u64::from));
+    let (front, behind) = bytes.split_at(4 * written);
+    let back: Vec<u32> = front.chunks(4).map(|four| be32(four, 0)).collect();
+    assert_eq!(back, numbers[..written]);
+    assert!(behind.iter().all(|&byte| byte == 7));
+
+    let pairs = numbers[..written].chunks(2);
+    answer.map(|_| pairs.map(|pair| [pair[0], pair[1]]).collect())
+}
+
+fn sum(doses: Doses) -> u32 {
+    doses.iter().map(|dose| dose[1]).sum()
+}
+
+/// Reads a book in the least package, with this batch weight.
+fn book(edition: u32, book: &[u8], weight: u32) -> Checked<Vec<[u32; 2]>> {
+    doses(edition, &Content::least(book, weight).bytes())
+}
+
+#[test]
+fn p_books() {
+    let accepted = |edition, hex, right: Doses| {
+        assert_eq!(
+            book(edition, &bytes(hex), sum(right)),
+            Ok(right.to_vec()),
+            "{hex}"
+        );
+    };
+    let stops = |edition, hex, number| {
+        assert_eq!(
+            book(edition, &bytes(hex), 1250),
+            refused(number, 0),
+            "{hex}"
+        );
+    };
+    accepted(2, "86 00 1B 00 4C 4B 40", &[[27, 5_000_000]]);
+    stops(2, "86 00 1B 00 4C 4B 41", 22);
+    stops(1, "98 00 1B 00 00 04 E2 00 05", 20);
+    accepted(2, "98 00 1B 00 00 04 E2 00 05", &[[27, 1250]]);
+    stops(1, "14 00 00", 21);
+    stops(2, "14 00 00", 21);
+    stops(2, "96", 20);
+    stops(2, "7F", 21);
+    stops(2, "80", 20);
+    accepted(2, "00", &[]);
+}
+
+#[test]
+fn oxides_and_milligrams() {
+    for kind in [0x86, 0x98] {
+        let dose = |oxide: u16, milligrams: u32| {
+            let mut bytes = vec![0x02, 0, 7, kind];
+            bytes.extend(oxide.to_be_bytes());
+            bytes.extend(milligrams.to_be_bytes());
+            bytes.resize(4 + usize::from(kind % 16), 0xFF);
+            book(2, &bytes, milligrams)
+        };
+        for (oxide, milligrams) in [(1, 1), (999, 5_000_000)] {
+            let right = vec![[u32::from(oxide), milligrams]];
+            assert_eq!(dose(oxide, milligrams), Ok(right));
+        }
+        for oxide in [0, 1000, 256 * 4, u16::MAX] {
+            assert_eq!(dose(oxide, 1), refused(22, 3));
+        }
+        for milligrams in [0, 5_000_001, 1 << 31, u32::MAX] {
+            assert_eq!(dose(1, milligrams), refused(22, 3));
+        }
+    }
+}
+
+#[test]
+fn books_of_4096_and_4097() {
+    // 585 doses and a remark without body: the largest sum, over 2^31.
+    let mut full = bytes("86 00 1B 00 4C 4B 40").repeat(585);
+    full.push(0);
+    assert_eq!(full.len(), 4096);
+    let right = vec![[27, 5_000_000]; 585];
+    assert_eq!(book(1, &full, 0), Ok(right.clone()));
+    assert_eq!(book(2, &full, 2_925_000_000), Ok(right));
+    full.push(0);
+    for edition in [1, 2] {
+        assert_eq!(book(edition, &full, 2_925_000_000), refused(19, 20001));
+        assert_eq!(book(edition, &[0; 4096], 0), Ok(vec![]));
+        assert_eq!(book(edition, &[0; 4097], 0), refused(19, 20001));
+    }
+}
+
+#[test]
+fn kinds() {
+    let editions = |hex, weight| [1, 2].map(|edition| book(edition, &bytes(hex), weight));
+    // Unknown remarks are skipped, by their own length.
+    let skipped = format!("7F{} 00 86 00 05 00 00 00 09", " 86".repeat(15));
+    let right = vec![[5, 9]];
+    assert_eq!(editions(&skipped, 9), [Ok(right.clone()), Ok(right)]);
+    // Doses in order, an oxide twice; 98 only in edition 2.
+    let both = "86 00 02 00 00 00 01 98 00 01 00 00 00 02 00 00 86 00 02 00 00 00 03";
+    let right = vec![[2, 1], [1, 2], [2, 3]];
+    assert_eq!(editions(both, 6), [refused(20, 7), Ok(right)]);
+    assert_eq!(editions(both, 7), [refused(20, 7), refused(23, 20002)]);
+    // The first record that is wrong decides, then 20 before 21 before 22.
+    assert_eq!(editions("00 FF 7F", 0), [refused(20, 1), refused(20, 1)]);
+    assert_eq!(
+        editions("02 00 07 86 00 00", 0),
+        [refused(21, 3), refused(21, 3)]
+    );
+    assert_eq!(
+        editions("86 00 00 00 00 00 01 80", 1),
+        [refused(22, 0), refused(22, 0)]
+    );
+}
+
+#[test]
+fn example_output() {
+    let example = bytes("02 00 07 86 00 1B 00 00 04 E2");
+    let print = |book: &[u8], weight| printed(&Content::least(book, weight).bytes());
+    assert_eq!(print(&example, 1250), "edition 2\n27 1250\ntotal 1250\n");
+    assert_eq!(print(&[0], 0), "edition 2\ntotal 0\n");
+    assert_eq!(print(&example, 1251), "refused 23 at 20002\n");
+    assert_eq!(printed(&[]), "refused 3 at 0\n");
+    assert_eq!(printed(&[0; 65_537]), "refused 2 at 0\n");
+}
+
+#[test]
+fn packages_of_other_writers() {
+    macro_rules! data {
+        ($name:literal) => {
+            include_bytes!(concat!("../data/", $name, ".rpm"))
+        };
+    }
+    let no_book: [&[u8]; 5] = [
+        data!("rb-one"),
+        data!("rb-deps"),
+        data!("rb-scripts"),
+        data!("rb-signed-rsa"),
+        data!("rb-legacy-nodirtokens-kinds"),
+    ];
+    let houses: [&[u8]; 2] = [data!("house-one-region"), data!("house-make-64")];
+    for edition in [1, 2] {
+        for package in no_book {
+            assert_eq!(doses(edition, package), refused(14, 20001));
+        }
+        assert_eq!(doses(edition, data!("rb-i18n")), refused(10, 4600));
+        for package in houses {
+            assert_eq!(doses(edition, package), Ok(vec![[27, 1250]]));
+        }
+    }
+    for package in houses {
+        assert_eq!(printed(package), "edition 2\n27 1250\ntotal 1250\n");
+    }
+}
+
+#[test]
+fn editions() {
+    let package = Content::least(&[0], 0).bytes();
+    let long = vec![0; 65_537];
+    for edition in [0, 3, 257, 258, 65_537, 1 << 31 | 1, u32::MAX] {
+        for package in [&package[..], &package[..95], &[], &long] {
+            assert_eq!(doses(edition, package), refused(1, 0));
+        }
+    }
+    for edition in [1, 2] {
+        assert_eq!(doses(edition, &package), Ok(vec![]));
+        assert_eq!(doses(edition, &package[..95]), refused(3, 95));
+        assert_eq!(doses(edition, &long), refused(2, 0));
+    }
+}
+
+// ---- The catalogue against 000's tables ----
+
+/// The lines of these tables, under document 01's exceptions, tags rising.
+fn lines(tables: &[&str], any_count: &[u32]) -> Vec<(u32, u32, Count, bool)> {
+    let mut lines = Vec::new();
+    let mut wanted = false;
+    for text in include_str!("tables.txt").lines() {
+        if let Some(title) = text.strip_prefix("Table ") {
+            wanted = tables
+                .iter()
+                .any(|table| title.starts_with(&format!("{table}.")));
+        }
+        // A blank count may stand behind the status.
+        let words: Vec<&str> = text.split('|').map(str::trim).collect();
+        let Some(tag) = words.get(1).and_then(|word| word.parse().ok()) else {
+            continue;
+        };
+        let ty = match words[2] {
+            "INT16" => 3,
+            "INT32" => 4,
+            "STRING" => 6,
+            "BIN" => 7,
+            "STRING_ARRAY" => 8,
+            "I18NSTRING" => 9,
+            other => panic!("{other}"),
+        };
+        let count = match words[3].parse() {
+            Ok(exact) if !any_count.contains(&tag) => Count::Exactly(exact),
+            _ => Count::Any,
+        };
+        if wanted {
+            lines.push((tag, ty, count, words[3..].contains(&"Required")));
+        }
+    }
+    lines.sort_by_key(|line| line.0);
+    lines
+}
+
+#[test]
+fn catalogue_is_the_papers() {
+    let ours = |lines: &[Line]| -> Vec<_> {
+        let parts = |line: &Line| {
+            (
+                line.tag,
+                line.ty,
+                line.count,
+                line.status == Status::Required,
+            )
+        };
+        lines.iter().map(parts).collect()
+    };
+    let mut signature = lines(&["1-4", "1-5", "1-6", "1-7"], &[1002, 1005, 1011, 1012]);
+    // Tag 100 is required in the header only.
+    assert_eq!(signature[2], (100, 8, Count::Any, true));
+    signature[2].3 = false;
+    assert_eq!(ours(&SIGNATURE), signature);
+
+    let tables = ["1-4", "1-8", "1-9", "1-10", "1-11", "1-14"];
+    let mut header = lines(&tables, &[1047, 1114]);
+    header.push((20001, 7, Count::Any, true));
+    header.push((20002, 4, Count::Exactly(1), true));
+    assert_eq!(ours(&HEADER), header);
+
+    for part in [&SIGNATURE[..], &HEADER] {
+        assert!(part.is_sorted_by(|one, next| one.tag < next.tag));
+    }
+}
+
+// ---- Checks 14 to 18 on the least package, changed ----
+
+const S: usize = content::SIGNATURE;
+const H: usize = content::HEADER;
+
+/// Puts items into the least package, by structure; reads at both editions, which agree.
+fn with(items: &[(usize, Item)]) -> Checked<Vec<[u32; 2]>> {
+    changed(items, &[])
+}
+
+fn changed(items: &[(usize, Item)], removed: &[(usize, u32)]) -> Checked<Vec<[u32; 2]>> {
+    let mut content = Content::least(&[0], 0);
+    for (structure, item) in items {
+        content.put(*structure, item.clone());
+    }
+    for &(structure, tag) in removed {
+        content.remove(structure, tag);
+    }
+    let package = content.bytes();
+    let answer = doses(2, &package);
+    assert_eq!(doses(1, &package), answer);
+    answer
+}
+
+fn right() -> Checked<Vec<[u32; 2]>> {
+    Ok(vec![])
+}
+
+#[test]
+fn lines_one_by_one() {
+    for (structure, lines) in [(S, &SIGNATURE[..]), (H, &HEADER[..70])] {
+        for line in lines.iter().filter(|line| line.status == Status::Required) {
+            let answer = changed(&[], &[(structure, line.tag)]);
+            assert_eq!(answer, refused(14, line.tag));
+        }
+        for line in lines {
+            let item = if line.ty == 7 {
+                strings(line.tag, 6, &["x"])
+            } else {
+                bin(line.tag, &[0])
+            };
+            assert_eq!(with(&[(structure, item)]), refused(15, line.tag));
+        }
+    }
+    for count in [1, 15, 17] {
+        for (structure, tag) in [(S, 1004), (S, 62), (S, 63), (H, 62), (H, 63)] {
+            let answer = with(&[(structure, bin(tag, &vec![1; count]))]);
+            assert_eq!(answer, refused(15, tag));
+        }
+    }
+    for (structure, tag) in [(S, 1000), (S, 1007), (H, 1006), (H, 1009), (H, 1046)] {
+        let answer = with(&[(structure, words(tag, &[0, 0]))]);
+        assert_eq!(answer, refused(15, tag));
+    }
+    // Lines that take any count in spite of 000.
+    for count in [1, 65, 152] {
+        for tag in [1002, 1005] {
+            assert_eq!(with(&[(S, bin(tag, &vec![1; count]))]), right());
+        }
+    }
+    // The batch weight has a line in edition 2 only.
+    let mut content = Content::least(&[0], 0);
+    for (item, number) in [
+        (None, 14),
+        (Some(bin(20002, &[0; 4])), 15),
+        (Some(words(20002, &[0, 0])), 15),
+        (Some(words(20002, &[1])), 23),
+    ] {
+        content.remove(H, 20002);
+        content.items[H].extend(item);
+        assert_eq!(doses(1, &content.bytes()), right());
+        assert_eq!(doses(2, &content.bytes()), refused(number, 20002));
+    }
+}
+
+#[test]
+fn lines_in_order() {
+    // Per line 14, then 15; the signature's lines first.
+    let wrong = |tag| (H, bin(tag, &[0]));
+    assert_eq!(changed(&[wrong(1001)], &[(H, 1000)]), refused(14, 1000));
+    assert_eq!(changed(&[wrong(1000)], &[(H, 1001)]), refused(15, 1000));
+    assert_eq!(changed(&[wrong(100)], &[(S, 1004)]), refused(14, 1004));
+    let pgp = (S, strings(1012, 6, &["x"]));
+    assert_eq!(changed(&[pgp], &[(H, 100)]), refused(15, 1012));
+}
+
+#[test]
+fn size_tag() {
+    let mut content = Content::least(&[0], 0);
+    content.payload = vec![9; 5];
+    let package = content.bytes();
+    let h = content.package().h();
+    assert_eq!(doses(2, &package), right());
+    assert_eq!(doses(2, &package[..package.len() - 1]), refused(16, 1000));
+    let length = package.len();
+    for size in [0, 5, length, length - S, length - h - 1, length - h + 1] {
+        content.size = Some(size as u32);
+        assert_eq!(doses(2, &content.bytes()), refused(16, 1000));
+    }
+    content.size = Some((length - h) as u32 | 1 << 31);
+    assert_eq!(doses(2, &content.bytes()), refused(16, 1000));
+}
+
+#[test]
+fn groups_that_need() {
+    let dsa = (S, bin(1011, &[1]));
+    let rsa = (S, bin(1012, &[1]));
+    let gpg = (S, bin(1005, &[1]));
+    assert_eq!(with(&[dsa.clone()]), refused(17, 1005));
+    assert_eq!(with(&[rsa.clone()]), refused(17, 1002));
+    // 1011's group comes first.
+    assert_eq!(with(&[rsa.clone(), dsa.clone()]), refused(17, 1005));
+    assert_eq!(with(&[rsa, dsa.clone(), gpg.clone()]), refused(17, 1002));
+    assert_eq!(with(&[dsa, gpg]), right());
+
+    for script in 1023..=1026 {
+        let program = script - 1023 + 1085;
+        let body = (H, strings(script, 6, &["true"]));
+        let shell = (H, strings(program, 6, &["/bin/sh"]));
+        assert_eq!(with(&[body.clone()]), refused(17, program));
+        assert_eq!(with(&[shell.clone()]), right());
+        assert_eq!(with(&[body, shell]), right());
+    }
+}
+
+fn numbers(tag: u32, count: u32) -> (usize, Item) {
+    (H, words(tag, &vec![0; count as usize]))
+}
+
+fn texts(tag: u32, count: u32) -> (usize, Item) {
+    (H, strings(tag, 8, &vec!["/"; count as usize]))
+}
+
+#[test]
+fn groups_of_files() {
+    let shorts = |tag, count| (H, content::shorts(tag, &vec![0; count]));
+    assert_eq!(with(&[shorts(1030, 2)]), refused(17, 1030));
+    assert_eq!(with(&[shorts(1033, 2), texts(1097, 2)]), refused(17, 1033));
+    assert_eq!(with(&[numbers(1045, 2)]), refused(17, 1045));
+    assert_eq!(with(&[numbers(1045, 1)]), right());
+    assert_eq!(with(&[numbers(1028, 2)]), refused(17, 1030));
+    for tag in [1034, 1037, 1095, 1096] {
+        assert_eq!(with(&[numbers(tag, 2)]), refused(17, tag));
+    }
+    for tag in [1035, 1036, 1039, 1040, 1097] {
+        assert_eq!(with(&[texts(tag, 2)]), refused(17, tag));
+    }
+
+    // Names: 1027, or the three.
+    let three = [(H, 1116), (H, 1117), (H, 1118)];
+    assert_eq!(changed(&[texts(1027, 1)], &three), right());
+    assert_eq!(changed(&[texts(1027, 2)], &three), refused(17, 1027));
+    for kept in 0..3 {
+        let mut gone = three.to_vec();
+        gone.remove(kept);
+        assert_eq!(changed(&[texts(1027, 1)], &gone), refused(17, 1027));
+    }
+    assert_eq!(changed(&[], &three), refused(17, 1116));
+    assert_eq!(changed(&[], &three[1..]), refused(17, 1117));
+    assert_eq!(with(&[numbers(1116, 2)]), refused(17, 1116));
+    assert_eq!(with(&[texts(1117, 2)]), refused(17, 1117));
+    assert_eq!(with(&[texts(1118, 2)]), right());
+    // Missing goes before differing; counts of files before names.
+    assert_eq!(changed(&[numbers(1116, 2)], &three[2..]), refused(17, 1118));
+    assert_eq!(changed(&[texts(1097, 2)], &three[..1]), refused(17, 1097));
+}
+
+#[test]
+fn groups_that_are_led() {
+    for (leader, flags, versions) in [(1049, 1048, 1050), (1047, 1112, 1113)] {
+        assert_eq!(with(&[numbers(flags, 2)]), refused(17, flags));
+        assert_eq!(with(&[texts(versions, 2)]), refused(17, versions));
+        assert_eq!(with(&[texts(leader, 2)]), refused(17, flags));
+        let all = [texts(leader, 2), numbers(flags, 2), texts(versions, 2)];
+        assert_eq!(with(&all), right());
+    }
+    for (leader, flags, versions) in [(1054, 1053, 1055), (1090, 1114, 1115), (1081, 1080, 1082)] {
+        let lowest = flags.min(leader);
+        let name = |count| texts(leader, count);
+        let flag = |count| numbers(flags, count);
+        let version = |count| texts(versions, count);
+        assert_eq!(with(&[name(2), flag(2), version(2)]), right());
+        assert_eq!(with(&[name(1)]), refused(17, flags));
+        assert_eq!(with(&[flag(1)]), refused(17, leader));
+        assert_eq!(with(&[version(1)]), refused(17, lowest));
+        assert_eq!(with(&[name(1), version(1)]), refused(17, flags));
+        assert_eq!(with(&[flag(1), version(1)]), refused(17, leader));
+        // The missing tag, though the flags' count differs too.
+        assert_eq!(with(&[name(1), flag(2)]), refused(17, versions));
+        assert_eq!(with(&[name(1), flag(2), version(2)]), refused(17, flags));
+        assert_eq!(with(&[name(1), flag(1), version(2)]), refused(17, versions));
+    }
+    // In the paper's order: 1049's group, then 1047's.
+    let both = [numbers(1048, 2), numbers(1112, 2)];
+    assert_eq!(with(&both), refused(17, 1048));
+    let both = [
+        texts(1050, 2),
+        numbers(1112, 2),
+        texts(1090, 1),
+        texts(1054, 1),
+    ];
+    assert_eq!(with(&both), refused(17, 1050));
+    assert_eq!(with(&both[1..]), refused(17, 1112));
+    assert_eq!(with(&both[2..]), refused(17, 1053));
+}
+
+#[test]
+fn text_rules() {
+    let text = |tag, text: &str| (H, strings(tag, 6, &[text]));
+    for os in ["", "Linux", "linu", "linuxx", "linux "] {
+        assert_eq!(with(&[text(1021, os)]), refused(18, 1021));
+    }
+    for program in 1085..=1088 {
+        for shell in ["", "/bin/sh ", "/bin/bash", "/bin/s"] {
+            assert_eq!(with(&[text(program, shell)]), refused(18, program));
+        }
+    }
+    for directory in ["", "/srv", "/srv/x", "srv/ "] {
+        let names = (H, strings(1118, 8, &["/", directory]));
+        assert_eq!(with(&[names]), refused(18, 1118));
+    }
+    for index in [1, 2, 1 << 31, u32::MAX] {
+        assert_eq!(with(&[(H, words(1116, &[index]))]), refused(18, 1116));
+    }
+    assert_eq!(with(&[(H, words(1116, &[1])), texts(1118, 2)]), right());
+    // In the paper's order.
+    let all = [
+        (H, strings(1118, 8, &["srv"])),
+        (H, words(1116, &[1])),
+        text(1088, "x"),
+        text(1085, "x"),
+        text(1021, "x"),
+    ];
+    for (count, place) in [(1, 1118), (2, 1116), (3, 1088), (4, 1085), (5, 1021)] {
+        assert_eq!(with(&all[..count]), refused(18, place));
+    }
+}
+
+// ---- The dose buffer ----
+
+#[test]
+fn room_for_doses() {
+    let two = bytes("86 00 1B 00 00 00 09 86 00 1C 00 00 00 08");
+    let package = Content::least(&two, 17).bytes();
+    for edition in [1, 2] {
+        for room in 0..4 {
+            let mut numbers = vec![7; room];
+            assert_eq!(read(edition, &package, &mut numbers), refused(24, 4));
+            assert_eq!(numbers, vec![7; room]);
+        }
+        let mut numbers = [7; 5];
+        assert_eq!(read(edition, &package, &mut numbers), Ok(2));
+        assert_eq!(numbers, [27, 9, 28, 8, 7]);
+
+        for length in 0..16 {
+            let mut bytes = vec![7; length];
+            assert_eq!(read_for_c(edition, &package, &mut bytes), (24 << 32) + 4);
+            assert_eq!(bytes, vec![7; length]);
+        }
+        for remainder in 0..8 {
+            let mut bytes = vec![7; 16 + remainder];
+            assert_eq!(read_for_c(edition, &package, &mut bytes), 2);
+            assert_eq!(
+                bytes[..16],
+                [0, 0, 0, 27, 0, 0, 0, 9, 0, 0, 0, 28, 0, 0, 0, 8]
+            );
+            assert_eq!(bytes[16..], vec![7; remainder]);
+        }
+    }
+    // 23 goes before 24, and no dose is written before the sum is known.
+    let heavier = Content::least(&two, 18).bytes();
+    assert_eq!(read(2, &heavier, &mut [7; 3]), refused(23, 20002));
+    assert_eq!(doses(2, &heavier), refused(23, 20002));
+    assert_eq!(read(1, &heavier, &mut [7; 3]), refused(24, 4));
+    // A book without doses needs no room.
+    assert_eq!(read(2, &Content::least(&[0], 0).bytes(), &mut []), Ok(0));
+}
