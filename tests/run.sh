@@ -20,7 +20,7 @@ gcc -O2 -Wall -Wextra -Werror -Iinclude tests/c/find_test.c "$lib" -o "$out/find
 
 echo "tests: the C calls, compared with the reference"
 $rust --crate-type rlib --crate-name reference tests/reference/lib.rs -o "$out/libreference.rlib"
-$rust tests/compare/main.rs --extern "reference=$out/libreference.rlib" \
+$rust --cfg reading tests/compare/main.rs --extern "reference=$out/libreference.rlib" \
     -C "link-arg=$lib" -o "$out/compare"
 "$out/compare" tests/data "$out/difference.rpm"
 
