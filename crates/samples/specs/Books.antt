@@ -2,7 +2,7 @@
 -- passed, oxide then milligrams.
 use Prim.Native.Nat.{ℕ}
 use mathlib.Core.List.{List, [], _∷_}
-use mathlib.Core.Bool.{Bool, true, _&&_}
+use mathlib.Core.Bool.{Bool, _&&_}
 use Rattle.be.specs.Bytes.{sameBytes}
 use Rattle.format.specs.declared.verdict.Verdict.{Verdict}
 use Rattle.format.specs.declared.verdict.Verdict.the-variants.{Pass, Fail}
@@ -54,7 +54,3 @@ abbrev pub bookRight : BookSample → Bool
 bookRight sample =
     let verdict = bookCheck (isKnown (sample .edition)) (sample .bytes) in
     isVerdict verdict (sample .verdict) && sameBytes (given verdict (numbersOf (doses (sample .bytes)))) (sample .doses)
-
-abbrev pub booksRight : List BookSample → Bool
-booksRight [] = true
-booksRight (sample ∷ rest) = bookRight sample && booksRight rest

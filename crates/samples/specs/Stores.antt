@@ -54,7 +54,3 @@ abbrev pub isRight : Sample → Bool
 isRight sample =
     let s = structureOf8 (sample .ty) (sample .offset) (sample .count) (sample .store) in
     isVerdict (structureCheck s (length s) 0) (sample .verdict)
-
-abbrev pub allRight : List Sample → Bool
-allRight [] = true
-allRight (sample ∷ rest) = isRight sample && allRight rest

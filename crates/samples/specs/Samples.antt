@@ -1,0 +1,20 @@
+-- Document 01, "Bench samples": those marked P, as a single list.
+use mathlib.Core.List.{List, [], _∷_, _++_, map}
+use mathlib.Core.Bool.{Bool, true, _&&_}
+use Rattle.samples.specs.Stores as stores
+use Rattle.samples.specs.Books as books
+
+pub data Sample : Type 0 where
+  Store : stores.Sample → Sample
+  Book : books.BookSample → Sample
+
+abbrev pub samples : List Sample
+samples = map Book books.books ++ map Store stores.samples
+
+abbrev pub isRight : Sample → Bool
+isRight (Store sample) = stores.isRight sample
+isRight (Book sample) = books.bookRight sample
+
+abbrev pub allRight : List Sample → Bool
+allRight [] = true
+allRight (sample ∷ rest) = isRight sample && allRight rest
