@@ -1,0 +1,46 @@
+#!/bin/bash
+# Tests the program doses: run from the repository's root, after `rt check` built target/bin/doses.
+# DOSES names another program to test.
+set -euo pipefail
+
+doses=${DOSES:-target/bin/doses}
+data=crates/samples/data
+[ -x "$doses" ] || { echo "tests: no $doses (rt check makes it)" >&2; exit 1; }
+cases=0
+
+# gives FILE LINE..: the whole output for a package
+gives() {
+    local file=$1
+    shift
+    cases=$((cases + 1))
+    if [ "$("$doses" < "$file"; echo .)" != "$(printf '%s\n' "$@"; echo .)" ]; then
+        echo "tests: doses $file: not what is expected" >&2
+        exit 1
+    fi
+}
+
+gives "$data/book_example" 'edition 2' '27 1250' 'total 1250'
+gives "$data/book_no_doses" 'edition 2' 'total 0'
+gives "$data/book_two_kinds" 'edition 2' '27 1250' '1 1' 'total 1251'
+gives "$data/book_most_milligrams" 'edition 2' '27 5000000' 'total 5000000'
+gives "$data/check23_sum" 'refused 23 at 20002'
+gives "$data/check14_20002" 'refused 14 at 20002'
+gives "$data/check02_one_more" 'refused 2 at 0'
+gives "$data/check03_empty" 'refused 3 at 0'
+gives tests/data/house-one-region.rpm 'edition 2' '27 1250' 'total 1250'
+gives tests/data/house-make-64.rpm 'edition 2' '27 1250' 'total 1250'
+gives tests/data/rb-one.rpm 'refused 14 at 20001'
+gives tests/data/rb-i18n.rpm 'refused 10 at 4600'
+
+# 585 doses of 1250 mg
+lines=('edition 2')
+for _ in $(seq 585); do lines+=('27 1250'); done
+gives "$data/book_limit" "${lines[@]}" 'total 731250'
+
+# input beyond the limit, however long
+if [ "$(head -c 200000 /dev/zero | "$doses")" != 'refused 2 at 0' ]; then
+    echo 'tests: doses: a long input' >&2
+    exit 1
+fi
+
+echo "tests: doses: $((cases + 1)) cases right"
