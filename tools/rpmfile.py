@@ -42,3 +42,20 @@ def package(signature, header, payload=b'', gap=0, front=None):
     """A package from two structures' bytes; the gap before the header is filled with one byte's value."""
     front = (lead() if front is None else front) + signature
     return front + bytes([gap]) * (-len(front) % 8) + header + payload
+
+
+def in_region(tag, entries):
+    """A header structure whose first record is a region (62 or 63) over all its entries, as rpm 4 writes it."""
+    index = 16 * (len(entries) + 1)
+    trailer = struct.pack('>IIiI', tag, BIN, -index, 16)
+    bits = structure(entries + [(tag, BIN, trailer)])
+    # The region's data stays last, its record comes first.
+    return bits[:16] + bits[index:index + 16] + bits[16:index] + bits[index + 16:]
+
+
+def cpio():
+    """An archive without files, as cpio's new ASCII form ends every archive."""
+    name = b'TRAILER!!!\0'
+    numbers = [0] * 4 + [1] + [0] * 6 + [len(name), 0]
+    record = b'070701' + b''.join(b'%08X' % n for n in numbers) + name
+    return record + bytes(-len(record) % 4)
