@@ -1,21 +1,25 @@
 /*
- * station.h: look into an RPM package (a recipe book) from C.
+ * station.h: read an RPM package (a recipe book) from C, and look into it.
  *
  * Link with libstation.a; no other library is needed.
  *
  * Lending. Every call gets a whole package as a pointer and a length, reads
  * nothing outside those bytes, changes none of them, and keeps nothing: when it
- * returns, the memory is yours again. There is no state and nothing to free, and
- * calls may run at the same time. The bytes may be anything, of any length; no
- * call asks you to test them first, and none fails otherwise than by its answer.
- * The pointer must not be NULL. An empty package is any other pointer with
- * length 0 (the answer is number 3, place 0).
+ * returns, the memory is yours again. station_read also gets a dose buffer; it
+ * writes there, and only when it accepts. There is no state and nothing to free,
+ * and calls may run at the same time, each with a dose buffer of its own. The
+ * bytes may be anything, of any length; no call asks you to test them first, and
+ * none fails otherwise than by its answer. No pointer may be NULL, and the dose
+ * buffer must not overlap the package. An empty package or buffer is any other
+ * pointer with length 0 (for an empty package the answer is number 3, place 0).
  *
  * Answers. A call answers number * 2^32 + place. Number 0 is success. Any other
  * number is the first check that the package, or the question, did not pass:
  *
  *   number  meaning                                      place
- *    0      found                                        file offset of the bytes
+ *    0      station_read: accepted                       how many doses
+ *           look-ups: found                              file offset of the bytes
+ *    1      the edition is neither 1 nor 2               0
  *    2      the package is longer than 65,536 bytes      0
  *    3      it is shorter than a lead, 96 bytes          its length
  *    4      a field of the lead is wrong                 that field's offset
@@ -34,12 +38,38 @@
  *           int32 to 4
  *   12      a record's data is not all inside the store  offset of the record
  *   13      an earlier record has the same tag           offset of the record
+ *   14      a required tag is absent                     the tag
+ *   15      a tag has not the type or the count that     the tag
+ *           the catalogue gives it
+ *   16      the signature's 1000 is not the length from  1000
+ *           the header's start to the package's end
+ *   17      tags that belong together: one is missing,   the lowest missing tag,
+ *           or their counts differ, or file names stand  else the lowest whose
+ *           in both forms (1027 and 1116 to 1118)        count differs; 1027
+ *   18      a text: 1021 is not "linux", one of 1085 to  the tag
+ *           1088 is not "/bin/sh", a number of 1116 is
+ *           not below the count of 1118, a string of
+ *           1118 does not end with "/"
+ *   19      the book (20001) is longer than 4,096 bytes  20001
+ *   20      a weighed record of a kind that the edition  where in the book the
+ *           does not know                                record's kind byte is
+ *   21      a record passes the book's end               the same
+ *   22      an oxide is not 1 to 999, or milligrams are  the same
+ *           not 1 to 5,000,000
+ *   23      the doses' sum is not the batch weight       20002
+ *           (20002); edition 2 only
+ *   24      the dose buffer is too short                 how many numbers are
+ *                                                        needed: two per dose
  *   25      no record has that tag and that type         0
  *   26      the entry has no element of that number      0
  *
- * Places are offsets from the package's first byte, except for number 3. The
- * checks run in this order: 2 to 4; 5 to 13 for the signature; 5 to 13 for the
- * header; then 25 and 26. Within a structure 9 to 13 run record by record. So a
+ * Places of 4 to 13 are offsets from the package's first byte, those of 20 to 22
+ * from the book's first byte; those of 14 to 19 and 23 are tags.
+ *
+ * The checks run in this order: 1 (station_read only); 2 to 4; 5 to 13 for the
+ * signature; 5 to 13 for the header; then 14 to 24 for station_read, 25 and 26 for
+ * look-ups. Within a structure 9 to 13 run record by record. 14 and 15 run tag by
+ * tag, the signature's tags first. 20 to 22 run record by record of the book. So a
  * damaged header is reported even if you ask for an entry of the signature.
  */
 #ifndef STATION_H
@@ -55,6 +85,35 @@ extern "C" {
 /* The two parts of an answer. */
 #define STATION_NUMBER(answer) ((uint32_t)((answer) >> 32))
 #define STATION_PLACE(answer) ((uint32_t)(answer))
+
+/* Bytes of a dose in the dose buffer, and of room for any book's doses. */
+#define STATION_DOSE_BYTES 8
+#define STATION_DOSES_ROOM (585 * STATION_DOSE_BYTES)
+
+/*
+ * Which doses does the book state?
+ *
+ *   edition               1 or 2, the rules to read by; any other is refused (1)
+ *   package, package_len  the lent package
+ *   doses, doses_len      the lent dose buffer; its length is in bytes
+ *
+ * The dose buffer holds numbers of four bytes each, big-endian; one to three bytes
+ * left over at its end are not used.
+ *
+ * On success the number is 0 and the place is how many doses the book states. They
+ * stand at the buffer's front in the book's order, oxide (1 to 999), then
+ * milligrams (1 to 5,000,000); the bytes behind them stay as they were. A book may
+ * state none. Any other number leaves every byte of the buffer as it was; nothing
+ * is written before all checks have passed. STATION_DOSES_ROOM bytes are enough for
+ * every book; with less, a book of more doses is refused (24).
+ *
+ * Edition 2 knows all that edition 1 does, a date record and a dose with a
+ * tolerance besides, and asks for the batch weight (20002), which must be the sum
+ * of the milligrams. An edition skips remarks that it does not know. A weighed
+ * record that it does not know is refused (20), never skipped.
+ */
+uint64_t station_read(uint32_t edition, const uint8_t *package, size_t package_len,
+                      uint8_t *doses, size_t doses_len);
 
 /*
  * Where is the data of an entry?

@@ -6,6 +6,8 @@ set -eu
 lib=${STATION_LIB:-target/staticlib/libstation.a}
 out=target/host
 rust="rustc --edition 2021 -O -D warnings"
+cc="gcc -O2 -Wall -Wextra -Werror -Iinclude"
+reading="--cfg reading" # empty for a library without station_read
 
 [ -f "$lib" ] || { echo "tests: no $lib (rt staticlib station makes it)" >&2; exit 1; }
 mkdir -p "$out"
@@ -15,13 +17,22 @@ $rust --test tests/reference/lib.rs -o "$out/reference_test"
 "$out/reference_test" --quiet
 
 echo "tests: the C calls, from C"
-gcc -O2 -Wall -Wextra -Werror -Iinclude tests/c/find_test.c "$lib" -o "$out/find_test"
+$cc tests/c/find_test.c "$lib" -o "$out/find_test"
 "$out/find_test" tests/data
+if [ -n "$reading" ]; then
+    $cc tests/c/read_test.c "$lib" -o "$out/read_test"
+    "$out/read_test" tests/data
+fi
 
 echo "tests: the C calls, compared with the reference"
 $rust --crate-type rlib --crate-name reference tests/reference/lib.rs -o "$out/libreference.rlib"
-$rust --cfg reading tests/compare/main.rs --extern "reference=$out/libreference.rlib" \
+$rust $reading tests/compare/main.rs --extern "reference=$out/libreference.rlib" \
     -C "link-arg=$lib" -o "$out/compare"
 "$out/compare" tests/data "$out/difference.rpm"
+
+if [ -n "$reading" ] && command -v python3 > /dev/null; then
+    echo "tests: packages by tools/make_package.py"
+    tests/make_package.sh
+fi
 
 echo "tests: all right"

@@ -1,9 +1,10 @@
 #!/usr/bin/env python3
 """Writes the packages of crates/samples/data: the bench samples and slips of document 01. Run at the project's root."""
+import hashlib
 import pathlib
 import struct
 
-from rpmfile import BIN, INT16, INT32, STRING, STRINGS, accepted, lead, package, raw, structure
+from rpmfile import BIN, I18N, INT16, INT32, STRING, STRINGS, lead, package, raw, structure
 
 OUT = pathlib.Path('crates/samples/data')
 SIGNATURE = structure([(1000, INT32, [1250])])
@@ -73,6 +74,40 @@ SAMPLES = {
     'store8_int32_at_4': header((1, INT32, 4, 1)),
     'store8_string_at_7': header((1, STRING, 7, 1), b'1234567\0'),
 }
+
+def accepted(book, batch=None, signature=(), header=(), drop=(), payload=b''):
+    """A package that the reading accepts at edition 2: header entries by tag, with some changed, added or dropped."""
+    weight = sum_of(book) if batch is None else batch
+    entries = {
+        100: (STRINGS, [b'C']), 1000: (STRING, b'book'), 1001: (STRING, b'1'), 1002: (STRING, b'1'),
+        1004: (I18N, b'A book'), 1005: (I18N, b'A recipe book'), 1009: (INT32, [1]), 1014: (STRING, b'none'),
+        1016: (I18N, b'Books'), 1021: (STRING, b'linux'), 1022: (STRING, b'noarch'),
+        1028: (INT32, [1]), 1030: (INT16, [0o100644]), 1033: (INT16, [0]), 1034: (INT32, [0]), 1035: (STRINGS, [b'']),
+        1036: (STRINGS, [b'']), 1037: (INT32, [0]), 1039: (STRINGS, [b'root']), 1040: (STRINGS, [b'root']),
+        1047: (STRINGS, [b'book']), 1048: (INT32, [0]), 1049: (STRINGS, [b'kiln']), 1050: (STRINGS, [b'1.0']),
+        1095: (INT32, [1]), 1096: (INT32, [1]), 1097: (STRINGS, [b'']), 1112: (INT32, [8]), 1113: (STRINGS, [b'1-1']),
+        1116: (INT32, [0]), 1117: (STRINGS, [b'book']), 1118: (STRINGS, [b'/usr/share/']),
+        1124: (STRING, b'cpio'), 1125: (STRING, b'gzip'), 1126: (STRING, b'9'),
+        20001: (BIN, book), 20002: (INT32, [weight]),
+    }
+    entries.update(dict(header))
+    for tag in drop:
+        del entries[tag]
+    bits = structure([(tag, ty, value) for tag, (ty, value) in sorted(entries.items())]) + payload
+    signs = {1000: (INT32, [len(bits)]), 1004: (BIN, hashlib.md5(bits).digest())}
+    signs.update(dict(signature))
+    return package(structure([(tag, ty, value) for tag, (ty, value) in sorted(signs.items())]), bits)
+
+
+def sum_of(book):
+    """The milligrams of a book's weighed records."""
+    total, at = 0, 0
+    while at < len(book):
+        if book[at] >= 128:
+            total += int.from_bytes(book[at + 3:at + 7].ljust(4, b'\0'), 'big')
+        at += 1 + book[at] % 16
+    return total % 2**32
+
 
 DOSE = bytes.fromhex('86001B000004E2')
 

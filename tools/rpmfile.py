@@ -1,5 +1,4 @@
 """Parts of an RPM package file as bytes: lead, header structure, whole package."""
-import hashlib
 import struct
 
 CHAR, INT8, INT16, INT32, STRING, BIN, STRINGS, I18N = 1, 2, 3, 4, 6, 7, 8, 9
@@ -45,35 +44,18 @@ def package(signature, header, payload=b'', gap=0, front=None):
     return front + bytes([gap]) * (-len(front) % 8) + header + payload
 
 
-def accepted(book, batch=None, signature=(), header=(), drop=(), payload=b''):
-    """A package that the reading accepts at edition 2: header entries by tag, with some changed, added or dropped."""
-    weight = sum_of(book) if batch is None else batch
-    entries = {
-        100: (STRINGS, [b'C']), 1000: (STRING, b'book'), 1001: (STRING, b'1'), 1002: (STRING, b'1'),
-        1004: (I18N, b'A book'), 1005: (I18N, b'A recipe book'), 1009: (INT32, [1]), 1014: (STRING, b'none'),
-        1016: (I18N, b'Books'), 1021: (STRING, b'linux'), 1022: (STRING, b'noarch'),
-        1028: (INT32, [1]), 1030: (INT16, [0o100644]), 1033: (INT16, [0]), 1034: (INT32, [0]), 1035: (STRINGS, [b'']),
-        1036: (STRINGS, [b'']), 1037: (INT32, [0]), 1039: (STRINGS, [b'root']), 1040: (STRINGS, [b'root']),
-        1047: (STRINGS, [b'book']), 1048: (INT32, [0]), 1049: (STRINGS, [b'kiln']), 1050: (STRINGS, [b'1.0']),
-        1095: (INT32, [1]), 1096: (INT32, [1]), 1097: (STRINGS, [b'']), 1112: (INT32, [8]), 1113: (STRINGS, [b'1-1']),
-        1116: (INT32, [0]), 1117: (STRINGS, [b'book']), 1118: (STRINGS, [b'/usr/share/']),
-        1124: (STRING, b'cpio'), 1125: (STRING, b'gzip'), 1126: (STRING, b'9'),
-        20001: (BIN, book), 20002: (INT32, [weight]),
-    }
-    entries.update(dict(header))
-    for tag in drop:
-        del entries[tag]
-    bits = structure([(tag, ty, value) for tag, (ty, value) in sorted(entries.items())]) + payload
-    signs = {1000: (INT32, [len(bits)]), 1004: (BIN, hashlib.md5(bits).digest())}
-    signs.update(dict(signature))
-    return package(structure([(tag, ty, value) for tag, (ty, value) in sorted(signs.items())]), bits)
+def in_region(tag, entries):
+    """A header structure whose first record is a region (62 or 63) over all its entries, as rpm 4 writes it."""
+    index = 16 * (len(entries) + 1)
+    trailer = struct.pack('>IIiI', tag, BIN, -index, 16)
+    bits = structure(entries + [(tag, BIN, trailer)])
+    # The region's data stays last, its record comes first.
+    return bits[:16] + bits[index:index + 16] + bits[16:index] + bits[index + 16:]
 
 
-def sum_of(book):
-    """The milligrams of a book's weighed records."""
-    total, at = 0, 0
-    while at < len(book):
-        if book[at] >= 128:
-            total += int.from_bytes(book[at + 3:at + 7].ljust(4, b'\0'), 'big')
-        at += 1 + book[at] % 16
-    return total % 2**32
+def cpio():
+    """An archive without files, as cpio's new ASCII form ends every archive."""
+    name = b'TRAILER!!!\0'
+    numbers = [0] * 4 + [1] + [0] * 6 + [len(name), 0]
+    record = b'070701' + b''.join(b'%08X' % n for n in numbers) + name
+    return record + bytes(-len(record) % 4)

@@ -5,48 +5,8 @@
  *
  * Every package is lent right before a page that faults.
  */
-#define _DEFAULT_SOURCE
-#include <stdio.h>
-#include <stdlib.h>
-#include <string.h>
-#include <sys/mman.h>
-
-#include "station.h"
-
-#define ROOM ((size_t)1 << 17)
-#define PAGE 4096
-
-static uint8_t *fence; /* the page that faults */
-static uint8_t package[ROOM];
-static size_t length;
-static int asked;
-
-static void build_fence(void)
-{
-    uint8_t *all = mmap(NULL, ROOM + PAGE, PROT_READ | PROT_WRITE,
-                        MAP_PRIVATE | MAP_ANONYMOUS, -1, 0);
-    if (all == MAP_FAILED || mprotect(all + ROOM, PAGE, PROT_NONE) != 0) {
-        perror("fence");
-        exit(1);
-    }
-    fence = all + ROOM;
-}
-
-static void expect(const char *what, uint64_t answer, uint32_t number, uint32_t place)
-{
-    asked++;
-    if (STATION_NUMBER(answer) == number && STATION_PLACE(answer) == place)
-        return;
-    fprintf(stderr, "find_test: %s: %u at %u, expected %u at %u\n", what,
-            STATION_NUMBER(answer), STATION_PLACE(answer), number, place);
-    exit(1);
-}
-
-/* The package's copy at the fence. */
-static const uint8_t *lend(void)
-{
-    return memcpy(fence - length, package, length);
-}
+#define PROGRAM "find_test"
+#include "package.h"
 
 static void find(const char *what, uint32_t structure, uint32_t tag, uint32_t type,
                  uint32_t number, uint32_t place)
@@ -72,40 +32,12 @@ static void refused(const char *what, uint32_t number, uint32_t place)
 
 /* ---- Making a package ---- */
 
-static void put(size_t at, uint32_t number)
-{
-    for (int i = 0; i < 4; i++)
-        package[at + i] = (uint8_t)(number >> (24 - 8 * i));
-}
-
-/* Writes a structure at the package's end. */
-static void structure(const uint32_t (*records)[4], size_t count, const char *store,
-                      size_t size)
-{
-    put(length, 0x8EADE801);
-    put(length + 4, 0);
-    put(length + 8, (uint32_t)count);
-    put(length + 12, (uint32_t)size);
-    length += 16;
-    for (size_t i = 0; i < count; i++)
-        for (size_t j = 0; j < 4; j++, length += 4)
-            put(length, records[i][j]);
-    memcpy(package + length, store, size);
-    length += size;
-}
-
 /* A right lead, and a signature of one int32 at 128. */
 static void begin(void)
 {
     static const uint32_t records[][4] = {{1000, 4, 0, 1}};
-    memset(package, 0, sizeof package);
-    put(0, 0xEDABEEDB);
-    package[4] = 3;
-    memcpy(package + 10, "book", 4);
-    package[77] = 1;
-    package[79] = 5;
-    length = 96;
-    structure(records, 1, "\0\0\4\342", 4);
+    put_lead();
+    put_structure(records, 1, "\0\0\4\342", 4);
     length = 136;
 }
 
@@ -117,7 +49,7 @@ static void make(void)
     static const uint32_t records[][4] = {
         {1000, 6, 0, 1}, {1117, 8, 0, 3}, {1030, 3, 10, 2}};
     begin();
-    structure(records, 3, "lead\0\0tin\0\1\2\3\4", 14);
+    put_structure(records, 3, "lead\0\0tin\0\1\2\3\4", 14);
 }
 
 /* One number of the package wrong. */
@@ -239,7 +171,7 @@ static void store_of_8(void)
     for (size_t i = 0; i < sizeof samples / sizeof samples[0]; i++) {
         const uint32_t *record = samples[i].record;
         begin();
-        structure(&samples[i].record, 1, samples[i].store, 8);
+        put_structure(&samples[i].record, 1, samples[i].store, 8);
         find("store of 8", 1, 1, record[1], samples[i].number,
              samples[i].number == 0 ? H + 32 + record[2] : H + 16);
     }
@@ -254,10 +186,10 @@ static void document_002(void)
     static const char store[172];
     begin();
     length = 96;
-    structure(signature, 3, store, sizeof store);
+    put_structure(signature, 3, store, sizeof store);
     refused("ends after the signature", 5, 336);
     length = 336;
-    structure(header, 1, "rpm", 4);
+    put_structure(header, 1, "rpm", 4);
     find("1000", 0, 1000, 4, 0, 160);
     find("1001", 0, 1001, 7, 0, 164);
     find("1002", 0, 1002, 7, 0, 180);
@@ -275,30 +207,17 @@ static void many_records(void)
         records[i][3] = 1;
     }
     begin();
-    structure((const uint32_t(*)[4])records, 512, "x", 1);
+    put_structure((const uint32_t(*)[4])records, 512, "x", 1);
     find("last of 512", 1, 512, 7, 0, H + 16 + 512 * 16);
     find("not among 512", 1, 513, 7, 25, 0);
     put(H + 16 + 511 * 16, 1);
     refused("last tag is the first", 13, H + 16 + 511 * 16);
     begin();
-    structure((const uint32_t(*)[4])records, 513, "x", 1);
+    put_structure((const uint32_t(*)[4])records, 513, "x", 1);
     refused("513 records", 7, H + 8);
 }
 
 /* ---- Packages of other writers ---- */
-
-static void read_package(const char *folder, const char *name)
-{
-    char path[4096];
-    snprintf(path, sizeof path, "%s/%s", folder, name);
-    FILE *file = fopen(path, "rb");
-    if (file == NULL) {
-        perror(path);
-        exit(1);
-    }
-    length = fread(package, 1, ROOM, file);
-    fclose(file);
-}
 
 /* The place is what it should be, and the bytes are there. */
 static void shows(uint32_t structure, uint32_t tag, uint32_t type, uint32_t n,
@@ -306,7 +225,7 @@ static void shows(uint32_t structure, uint32_t tag, uint32_t type, uint32_t n,
 {
     element("element", structure, tag, type, n, 0, place);
     if (memcmp(package + place, bytes, count) != 0) {
-        fprintf(stderr, "find_test: other bytes at %u\n", place);
+        fprintf(stderr, PROGRAM ": other bytes at %u\n", place);
         exit(1);
     }
 }
@@ -339,10 +258,9 @@ static void other_writers(const char *folder)
 int main(int count, char **words)
 {
     if (count != 2) {
-        fprintf(stderr, "find_test DATA-FOLDER\n");
+        fprintf(stderr, PROGRAM " DATA-FOLDER\n");
         return 2;
     }
-    build_fence();
     look_ups();
     lengths();
     lead_fields();
@@ -351,6 +269,6 @@ int main(int count, char **words)
     document_002();
     many_records();
     other_writers(words[1]);
-    printf("find_test: %d answers right\n", asked);
+    printf(PROGRAM ": %d answers right\n", asked);
     return 0;
 }
