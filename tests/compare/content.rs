@@ -64,8 +64,8 @@ pub struct Content {
     pub lead: [u8; 96],
     /// The signature's and the header's, in the order of their data.
     pub items: [Vec<Item>; 2],
-    /// What 1000 says, where it isn't length − H.
-    pub size: Option<u32>,
+    /// How far 1000 is from length − H.
+    pub size_off: u32,
     pub gap: u8,
     pub payload: Vec<u8>,
     /// 0: records in list order, data packed. Other numbers: each its own layout.
@@ -118,7 +118,7 @@ impl Content {
         Content {
             lead: lead(),
             items: [signature, header],
-            size: None,
+            size_off: 0,
             gap: 0,
             payload: Vec::new(),
             layout: 0,
@@ -146,7 +146,7 @@ impl Content {
         let mut signature = lay_out(&self.items[SIGNATURE], self.layout);
         let header = lay_out(&self.items[HEADER], self.layout.rotate_left(32));
         let right = header.size() + self.payload.len();
-        let size = self.size.unwrap_or(right as u32);
+        let size = self.size_off.wrapping_add(right as u32);
         for &[tag, ty, offset, _] in &signature.records {
             if tag == 1000 && ty == 4 {
                 let at = offset as usize;

@@ -28,11 +28,9 @@ use bench::{show, Bench, Question};
 use random::Random;
 
 /// Every answer that the calls have.
+#[rustfmt::skip]
 const NUMBERS: &[u32] = if cfg!(reading) {
-    &[
-        0, 1, 2, 3, 4, 5, 6, 7, 8, 9, 10, 11, 12, 13, 14, 15, 16, 17, 18, 19, 20, 21, 22, 23, 24,
-        25, 26,
-    ]
+    &[0, 1, 2, 3, 4, 5, 6, 7, 8, 9, 10, 11, 12, 13, 14, 15, 16, 17, 18, 19, 20, 21, 22, 23, 24, 25, 26]
 } else {
     &[0, 2, 3, 4, 5, 6, 7, 8, 9, 10, 11, 12, 13, 25, 26]
 };

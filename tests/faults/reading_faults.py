@@ -272,8 +272,8 @@ FAULTS = [
 
     (20, "not tested", RECORD, ""),
     (20, "unknown weighed kind skipped",
-     "        if is_weighed(kind) {\n            let dose",
-     "        if is_weighed(kind) && is_known(kind, edition) {\n            let dose"),
+     RECORD + END + "        if is_weighed(kind) {\n",
+     END + "        if is_weighed(kind) && is_known(kind, edition) {\n"),
     (20, "128 is a remark", "kind >= 128", "kind > 128"),
     (20, "unknown remark refused",
      "!is_weighed(kind) || is_known(kind, edition)", "is_known(kind, edition)"),
@@ -282,8 +282,8 @@ FAULTS = [
      "is_weighed(kind) || is_known(kind, edition), place)",
      "is_weighed(kind) || is_known(kind, edition), body)"),
     (20, "21 before 20", RECORD + END, END + RECORD),
-    (20, "96 known", "    (0x86, 1), // oxide, milligrams\n",
-     "    (0x86, 1), // oxide, milligrams\n    (0x96, 2),\n"),
+    (20, "96 known",
+     "known == kind && since", "(known == kind || (known, kind) == (0x14, 0x96)) && since"),
     (20, "any weighed kind of 6 bytes known",
      "known == kind && since", "(known == kind || known == 0x86 && kind % 16 == 6) && since"),
 

@@ -354,13 +354,19 @@ fn size_tag() {
     let h = content.package().h();
     assert_eq!(doses(2, &package), right());
     assert_eq!(doses(2, &package[..package.len() - 1]), refused(16, 1000));
-    let length = package.len();
-    for size in [0, 5, length, length - S, length - h - 1, length - h + 1] {
-        content.size = Some(size as u32);
+    let (length, right) = (package.len() as u32, (package.len() - h) as u32);
+    for size in [
+        0,
+        5,
+        length,
+        length - 96,
+        right - 1,
+        right + 1,
+        right | 1 << 31,
+    ] {
+        content.size_off = size.wrapping_sub(right);
         assert_eq!(doses(2, &content.bytes()), refused(16, 1000));
     }
-    content.size = Some((length - h) as u32 | 1 << 31);
-    assert_eq!(doses(2, &content.bytes()), refused(16, 1000));
 }
 
 #[test]

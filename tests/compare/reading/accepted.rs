@@ -103,31 +103,10 @@ pub fn right_item(random: &mut Random, line: &Line, count: usize, directories: u
 }
 
 /// Tags that have no line: anything lawful may stand there.
+#[rustfmt::skip]
 const NO_LINE: [u32; 24] = [
-    0,
-    1,
-    61,
-    64,
-    99,
-    101,
-    269,
-    273,
-    999,
-    1003,
-    1008,
-    1013,
-    1029,
-    1031,
-    1038,
-    1119,
-    1133,
-    5000,
-    20_000,
-    20_003,
-    65_536 + 1000,
-    1 << 31,
-    (1 << 31) + 20_001,
-    u32::MAX,
+    0, 1, 61, 64, 99, 101, 269, 273, 999, 1003, 1008, 1013, 1029, 1031, 1038, 1119, 1133,
+    5000, 20_000, 20_003, 65_536 + 1000, 1 << 31, (1 << 31) + 20_001, u32::MAX,
 ];
 
 /// Adds lawful entries under tags that have no line.
@@ -177,7 +156,7 @@ pub fn content(random: &mut Random, book: &Book) -> Content {
     let mut content = Content {
         lead: free_lead(random),
         items: [signature, header],
-        size: None,
+        size_off: 0,
         gap: random.byte(),
         payload: random.bytes(payload),
         layout: random.pick(&[0, seed]),

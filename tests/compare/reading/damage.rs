@@ -14,7 +14,7 @@ use crate::shapes::LAWFUL;
 enum Edit {
     Remove(usize, u32),
     Put(usize, Item),
-    /// What 1000 says.
+    /// 1000 is off by this much.
     Size(u32),
 }
 
@@ -35,7 +35,7 @@ impl Damage {
             match edit.clone() {
                 Edit::Remove(structure, tag) => content.remove(structure, tag),
                 Edit::Put(structure, item) => content.put(structure, item),
-                Edit::Size(size) => content.size = Some(size),
+                Edit::Size(off) => content.size_off = off,
             }
         }
     }
@@ -48,6 +48,11 @@ impl Damage {
         })
     }
 
+    /// Checks 14 and 15 have a rule for each tag.
+    pub fn is_of_a_line(&self) -> bool {
+        self.order.0 == 14
+    }
+
     /// Two damages that leave each other alone: other tags, and another rule.
     pub fn beside(&self, other: &Damage) -> bool {
         self.order != other.order
@@ -55,6 +60,19 @@ impl Damage {
                 .tags()
                 .all(|tag| other.tags().all(|theirs| tag != theirs))
     }
+}
+
+/// The damages of each rule, in the order in which the rules are checked.
+pub fn by_rule(mut damages: Vec<Damage>) -> Vec<Vec<Damage>> {
+    damages.sort_by_key(|damage| damage.order);
+    let mut rules: Vec<Vec<Damage>> = Vec::new();
+    for damage in damages {
+        match rules.last_mut() {
+            Some(rule) if rule[0].order == damage.order => rule.push(damage),
+            _ => rules.push(vec![damage]),
+        }
+    }
+    rules
 }
 
 /// What a package with this book and these damages must give: the first check decides.
@@ -204,7 +222,7 @@ fn size(list: &mut List) {
         u32::MAX,
     ] {
         if size != right {
-            let edits = vec![Edit::Size(size)];
+            let edits = vec![Edit::Size(size.wrapping_sub(right))];
             list.add("size", (16, 0), (16, 1000), edits);
         }
     }

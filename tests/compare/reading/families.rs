@@ -15,7 +15,7 @@ use crate::random::Random;
 use crate::real;
 
 /// All families, in the order in which they run.
-pub const ALL: [fn(&mut Desk, &mut Random); 15] = [
+pub const ALL: [fn(&mut Desk, &mut Random); 16] = [
     accepted,
     many_records,
     sizes,
@@ -23,6 +23,7 @@ pub const ALL: [fn(&mut Desk, &mut Random); 15] = [
     rooms,
     each_damage,
     pairs_of_damages,
+    damaged_twice,
     damaged_structures,
     cuts,
     kinds,
@@ -33,23 +34,10 @@ pub const ALL: [fn(&mut Desk, &mut Random); 15] = [
     extreme_fields,
 ];
 
+#[rustfmt::skip]
 const OTHER_EDITIONS: [u32; 16] = [
-    0,
-    3,
-    4,
-    255,
-    256,
-    257,
-    258,
-    65_536,
-    65_537,
-    65_538,
-    1 << 24,
-    (1 << 31) - 1,
-    1 << 31,
-    (1 << 31) + 1,
-    (1 << 31) + 2,
-    u32::MAX,
+    0, 3, 4, 255, 256, 257, 258, 65_536, 65_537, 65_538, 1 << 24,
+    (1 << 31) - 1, 1 << 31, (1 << 31) + 1, (1 << 31) + 2, u32::MAX,
 ];
 
 fn any(random: &mut Random) -> (Content, Book) {
@@ -187,35 +175,52 @@ fn each_damage(desk: &mut Desk, random: &mut Random) {
     }
 }
 
-/// Two damages, one of them perhaps in the book or in the structures: the first
-/// check decides.
+/// Two damages, of neighbouring rules or of any two, and perhaps a wrong book: the
+/// first check decides.
 fn pairs_of_damages(desk: &mut Desk, random: &mut Random) {
     desk.bench.family("two damages to an accepted package");
-    for round in 0..150 {
-        let book = match round % 3 {
+    for round in 0..40 {
+        let mut book = match round % 4 {
             0 => any_book(random),
             _ => Book::right(random, 60),
         };
-        let right = content(random, &book);
-        let damages = damage::all(&right, random);
-        for _ in 0..120 {
-            let one = &damages[random.below(damages.len())];
-            let other = &damages[random.below(damages.len())];
-            if !one.beside(other) {
-                continue;
-            }
-            let mut content = right.clone();
-            one.apply(&mut content);
-            other.apply(&mut content);
-            let known = damage::outcome(&book, &[one, other]);
-            desk.case(random, &content.bytes(), &known);
+        if round % 4 == 1 {
+            book = Book::of(&[(0x80, &[0; 5000])]);
+            book.known = refused(19, 20_001);
         }
-        // Checks 2 to 13 go before those on contents.
-        let mut content = right.clone();
+        let right = content(random, &book);
+        let rules = damage::by_rule(damage::all(&right, random));
+        for (at, one) in rules.iter().enumerate() {
+            for (beyond, other) in rules[at + 1..].iter().enumerate() {
+                let lines = one[0].is_of_a_line() || other[0].is_of_a_line();
+                if lines && beyond > 0 && !random.one_in(40) {
+                    continue;
+                }
+                let one = &one[random.below(one.len())];
+                let other = &other[random.below(other.len())];
+                if one.beside(other) {
+                    let mut content = right.clone();
+                    one.apply(&mut content);
+                    other.apply(&mut content);
+                    let known = damage::outcome(&book, &[one, other]);
+                    desk.note = one.what;
+                    desk.case(random, &content.bytes(), &known);
+                }
+            }
+        }
+    }
+}
+
+/// Checks 2 to 13 go before those on contents.
+fn damaged_twice(desk: &mut Desk, random: &mut Random) {
+    desk.bench.family("damaged in structure and content");
+    for _ in 0..100 {
+        let (mut content, _) = any(random);
+        let damages = damage::all(&content, random);
         damages[random.below(damages.len())].apply(&mut content);
         let package = content.package();
         let lower = structures::all(&package, random);
-        for _ in 0..20 {
+        for _ in 0..30 {
             let damage = &lower[random.below(lower.len())];
             let mut bytes = package.bytes();
             damage.apply(&mut bytes);
@@ -337,7 +342,7 @@ fn book_lengths(desk: &mut Desk, random: &mut Random) {
     ] {
         for round in 0..6 {
             let mut book = Book::new();
-            while book.bytes.len() + 16 <= size {
+            while book.bytes.len() + 17 <= size {
                 match round {
                     0 => book.record(0x86, &most),
                     1 => book.record(0, &[]),
