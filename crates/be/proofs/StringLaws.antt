@@ -1,17 +1,17 @@
 -- Laws of `stringsFrom`, one for each way through a turn of the scan.
 use Prim.Native.Nat.{ℕ, zero, suc, _+_, _-_, _≤_, _<_}
-use mathlib.Core.Path.{_≡_, refl, sym, _∙_}
+use mathlib.Core.Path.{_≡_, refl, sym, ap, _∙_}
 use mathlib.Core.List.{List}
-use lib.ListN.{getD}
+use lib.ListN.{length, getD, List·getD-eq-default}
 use mathlib.Core.Bool.{Bool, true, false, cond}
-use lib.Dec.{eqb}
+use lib.Dec.{eqb, leb}
 use mathlib.Core.Logic.{⊎-elim}
 use Rattle.be.proofs.Choice.{pick}
 use native.Mathlib.Omega.{arith}
-use borrow.Author.Tests.{eq-eqb, ne-eqb, eqb-true, eqb-false}
+use borrow.Author.Tests.{eq-eqb, ne-eqb, eqb-true, eqb-false, le-leb, lt-leb, leb-true, leb-false}
 use Rattle.be.specs.declared.Ending.{Ending}
 use Rattle.be.specs.declared.Ending.the-variants.{Ends, Open}
-use Rattle.be.specs.Strings.{stringsFrom}
+use Rattle.be.specs.Strings.{stringsFrom, nextZero, emptyStrings}
 
 module _ (s : List ℕ) where
   pub done : (room at count : ℕ) → count ≡ 0 → Ends at ≡ stringsFrom s room at count
@@ -54,21 +54,120 @@ bound s (suc room) at (suc count) e h =
     ⊎-elim (λ q. let k = bound s room (at + 1) count e q in omega arith) (λ q. let k = bound s room (at + 1) (suc count) e q in omega arith)
     (pick (eqb (getD s at 0) 0) _ _ h)
 
--- the same, in the shape of what is known in a turn: b is the byte that was read
-module _ (s : List ℕ) (end i left : ℕ) {v : Ending} (inv : v ≡ stringsFrom s (end - i) i left) where
-  pub turn-zero : {b : ℕ} → b ≡ getD s i 0 → i < end → (left ≡ 0 → ⊥) → b ≡ 0
-      → v ≡ stringsFrom s (end - (i + 1)) (i + 1) (left - 1)
-  turn-zero e l k z = inv ∙ zero-byte s end i left l k (sym e ∙ z)
+-- the first zero byte
+module _ (s : List ℕ) where
+  next-here : (room at : ℕ) → getD s at 0 ≡ 0 → nextZero s (suc room) at ≡ at
+  unfolding nextZero
+  next-here room at h = rw (eq-eqb (getD s at 0) 0 h)
 
-  pub turn-other : {b : ℕ} → b ≡ getD s i 0 → i < end → (left ≡ 0 → ⊥) → (b ≡ 0 → ⊥)
-      → v ≡ stringsFrom s (end - (i + 1)) (i + 1) left
-  turn-other e l k z = inv ∙ other-byte s end i left l k (λ q. z (e ∙ q))
+  next-later : (room at : ℕ) → (getD s at 0 ≡ 0 → ⊥) → nextZero s (suc room) at ≡ nextZero s room (at + 1)
+  unfolding nextZero
+  next-later room at h = rw (ne-eqb (getD s at 0) 0 h)
 
-  pub ends : left ≡ 0 → Ends i ≡ v
-  ends h = done s (end - i) i left h ∙ sym inv
+  next-none : (at : ℕ) → nextZero s 0 at ≡ at
+  unfolding nextZero
+  next-none at = refl
 
-  pub spent : end ≤ i → (left ≡ 0 → ⊥) → Open ≡ v
-  spent l k = none s (end - i) i left (omega arith) k ∙ sym inv
+  -- in the shape of what is known in a turn: v is what the search began with
+  module _ (stop i : ℕ) {v : ℕ} (inv : v ≡ nextZero s (stop - i) i) where
+    pub next-turn : i < stop → (getD s i 0 ≡ 0 → ⊥) → v ≡ nextZero s (stop - (i + 1)) (i + 1)
+    next-turn l h = let e : stop - i ≡ suc (stop - (i + 1)) = omega arith in inv ∙ rw e (next-later _ i h)
+
+    pub next-ends : i < stop → getD s i 0 ≡ 0 → i ≡ v
+    next-ends l h = let e : stop - i ≡ suc (stop - (i + 1)) = omega arith in sym (inv ∙ rw e (next-here _ i h))
+
+    pub next-spent : stop ≤ i → i ≡ v
+    next-spent l = let e : stop - i ≡ 0 = omega arith in sym (inv ∙ rw e (next-none i))
+
+  next-within : (room at : ℕ) → (at ≤ nextZero s room at) × (nextZero s room at ≤ at + room)
+  next-within zero at = omega (arith, next-none at)
+  next-within (suc room) at = go (eqb (getD s at 0) 0) refl (next-within room (at + 1))
+    where
+      go : (b : Bool) → eqb (getD s at 0) 0 ≡ b
+          → (at + 1 ≤ nextZero s room (at + 1)) × (nextZero s room (at + 1) ≤ at + 1 + room)
+          → (at ≤ nextZero s (suc room) at) × (nextZero s (suc room) at ≤ at + suc room)
+      go true t h = omega (arith, next-here room at (eqb-true _ _ t))
+      go false t h = omega (arith, next-later room at (eqb-false _ _ t))
+
+  next-found : (room at : ℕ) → nextZero s room at < at + room → getD s (nextZero s room at) 0 ≡ 0
+  next-found zero at l = absurd (omega (arith, next-none at))
+  next-found (suc room) at l = go (eqb (getD s at 0) 0) refl (next-found room (at + 1))
+    where
+      go : (b : Bool) → eqb (getD s at 0) 0 ≡ b
+          → (nextZero s room (at + 1) < at + 1 + room → getD s (nextZero s room (at + 1)) 0 ≡ 0)
+          → getD s (nextZero s (suc room) at) 0 ≡ 0
+      go true t f = let e = next-here room at (eqb-true _ _ t) in rw e (eqb-true _ _ t)
+      go false t f = let e = next-later room at (eqb-false _ _ t) in rw e (f (omega arith))
+
+  -- up to the first zero byte no string ends
+  next-strings : (room at end count : ℕ) → (0 < room → at + room ≤ end)
+      → stringsFrom s (end - at) at (suc count) ≡ stringsFrom s (end - nextZero s room at) (nextZero s room at) (suc count)
+  next-strings zero at end count l = rw (next-none at)
+  next-strings (suc room) at end count l =
+      let fits = l (omega arith) in
+      go (eqb (getD s at 0) 0) refl (next-strings room (at + 1) end count (λ q. omega arith))
+    where
+      go : (b : Bool) → eqb (getD s at 0) 0 ≡ b
+          → stringsFrom s (end - (at + 1)) (at + 1) (suc count)
+          ≡ stringsFrom s (end - nextZero s room (at + 1)) (nextZero s room (at + 1)) (suc count)
+          → stringsFrom s (end - at) at (suc count)
+          ≡ stringsFrom s (end - nextZero s (suc room) at) (nextZero s (suc room) at) (suc count)
+      go true t h = rw (next-here room at (eqb-true _ _ t))
+      go false t h =
+          let fits = l (omega arith) in
+          let n = eqb-false _ _ t in
+          rw (next-later room at n) (other-byte s end at (suc count) (omega arith) (λ q. omega arith) n ∙ h)
+
+-- empty strings in a row
+pub empties-fit : (room at count : ℕ) → count ≤ room → Ends (at + count) ≡ emptyStrings room at count
+unfolding emptyStrings
+empties-fit room at count l = rw (le-leb count room l)
+
+pub empties-lack : (room at count : ℕ) → room < count → Open ≡ emptyStrings room at count
+unfolding emptyStrings
+empties-lack room at count l = rw (lt-leb count room l)
+
+empties-step : (room at count : ℕ) → emptyStrings room (at + 1) count ≡ emptyStrings (suc room) at (suc count)
+unfolding emptyStrings
+empties-step room at count = go (leb count room) refl
+  where
+    go : (b : Bool) → leb count room ≡ b → cond b (Ends (at + 1 + count)) Open ≡ emptyStrings (suc room) at (suc count)
+    go true t =
+        let l = leb-true count room t in
+        let e : at + 1 + count ≡ at + suc count = omega arith in
+        rw (le-leb (suc count) (suc room) (omega arith), e)
+    go false t = let l = leb-false count room t in rw (lt-leb (suc count) (suc room) (omega arith))
+
+-- behind the last byte every byte reads as 0, an empty string
+empties : (s : List ℕ) (room at count : ℕ) → (0 < room → length s ≤ at)
+    → stringsFrom s room at count ≡ emptyStrings room at count
+unfolding stringsFrom
+empties s room at zero h = let e : at + 0 ≡ at = omega arith in ap Ends (sym e) ∙ empties-fit room at 0 (omega arith)
+empties s zero at (suc count) h = empties-lack 0 at (suc count) (omega arith)
+empties s (suc room) at (suc count) h =
+    let past = h (omega arith) in
+    step-zero s room at count (List·getD-eq-default s 0 past) ∙ empties s room (at + 1) count (λ q. omega arith)
+    ∙ empties-step room at count
+
+-- in the shape of what is known in a turn: v is what the scan began with, zero the place of the first zero byte
+module _ (s : List ℕ) (end stop i left : ℕ) {v : Ending} (inv : v ≡ stringsFrom s (end - i) i left)
+    (m : stop ≡ length s - (length s - end)) {zero : ℕ} (z : zero ≡ nextZero s (stop - i) i) (k : 0 < left) where
+  at-zero : v ≡ stringsFrom s (end - zero) zero left
+  at-zero =
+      let f : left ≡ suc (left - 1) = omega arith in
+      cc (next-strings s (stop - i) i end (left - 1) (λ q. omega arith))
+
+  zero-there : zero < stop → getD s zero 0 ≡ 0
+  zero-there l = let w = next-within s (stop - i) i in rw z (next-found s (stop - i) i (omega arith))
+
+  pub turn : zero < stop → v ≡ stringsFrom s (end - (zero + 1)) (zero + 1) (left - 1)
+  turn l = at-zero ∙ zero-byte s end zero left (omega arith) (λ q. omega arith) (zero-there l)
+
+  pub ends-empty : {r : Ending} → stop ≤ zero → r ≡ emptyStrings (end - zero) zero left → r ≡ v
+  ends-empty l h = h ∙ sym (at-zero ∙ empties s (end - zero) zero left (λ q. omega arith))
+
+pub ends : (s : List ℕ) (room i left : ℕ) {v : Ending} → v ≡ stringsFrom s room i left → left ≤ 0 → Ends i ≡ v
+ends s room i left inv h = done s room i left (omega arith) ∙ sym inv
 
 -- at least one string takes at least one byte
 pub positive : (s : List ℕ) (room at count e : ℕ) → stringsFrom s room at count ≡ Ends e → 1 ≤ count → at < e

@@ -1,11 +1,11 @@
 // Big-endian numbers, parts and zero-ended strings of a slice of bytes. Each function answers for any place: a byte past
 // the end reads as 0, and a part ends where the slice does.
 ghost use mathlib.Core.Path.{_≡_};
-ghost use Prim.Native.Nat.{ℕ, _+_, _*_, _-_};
-ghost use lib.ListN.{getD, take, drop};
+ghost use Prim.Native.Nat.{ℕ, _+_, _*_, _-_, _≤_, _<_};
+ghost use lib.ListN.{length, getD, take, drop};
 ghost use Rattle.be.specs.Numbers.{be16At, be32At};
 ghost use Rattle.be.specs.Bytes.{sameBytes};
-ghost use Rattle.be.specs.Strings.{stringsFrom, isEnded};
+ghost use Rattle.be.specs.Strings.{stringsFrom, nextZero, emptyStrings, isEnded};
 
 // The byte at a place.
 pub fn byte_at(s: &[u8], at: usize) -> u8
@@ -22,7 +22,7 @@ fn join16(a: u8, b: u8) -> u16
 }
 
 // The number of four bytes, the high one first.
-fn join32(a: u8, b: u8, c: u8, d: u8) -> u32
+pub fn join32(a: u8, b: u8, c: u8, d: u8) -> u32
     ensures { λ r. ⌜ r ≡ a * 16777216 + b * 65536 + c * 256 + d ⌝ }
 {
     a as u32 * 16777216 + b as u32 * 65536 + c as u32 * 256 + d as u32
@@ -38,23 +38,33 @@ pub fn be16(s: &[u8], at: usize) -> u16
     join16(s[at], byte_at(s, at + 1))
 }
 
-// The 32-bit number at a place.
-pub fn be32(s: &[u8], at: usize) -> u32
+// The 32-bit number at a place of which the slice may end.
+fn be32_cut(s: &[u8], at: usize) -> u32
     ensures { λ r. ⌜ r ≡ be32At (now (s .entry)) at ⌝ }
 {
     if s.len() <= at {
         return 0;
     }
-    let end = at + 4;
-    if end <= s.len() {
-        return join32(s[at], s[at + 1], s[at + 2], s[at + 3]);
-    }
     join32(
-        byte_at(s, at),
+        s[at],
         byte_at(s, at + 1),
         byte_at(s, at + 2),
         byte_at(s, at + 3),
     )
+}
+
+// The 32-bit number at a place.
+pub fn be32(s: &[u8], at: usize) -> u32
+    ensures { λ r. ⌜ r ≡ be32At (now (s .entry)) at ⌝ }
+{
+    let len = s.len();
+    if len < 4 {
+        return be32_cut(s, at);
+    }
+    if len - 4 < at {
+        return be32_cut(s, at);
+    }
+    join32(s[at], s[at + 1], s[at + 2], s[at + 3])
 }
 
 // The part of `extent` bytes from a place.
@@ -97,27 +107,60 @@ pub enum Ending {
     Open,
 }
 
+// Where the bytes before `end` stop: there, or where the slice does.
+fn stop_before(s: &[u8], end: usize) -> usize
+    ensures { λ r. ⌜ r ≡ length (now (s .entry)) - (length (now (s .entry)) - end) ⌝ }
+{
+    if s.len() < end { s.len() } else { end }
+}
+
+// The place of the first zero byte from `at`, before `stop`; `stop` where there is none, or `at` behind it.
+fn next_zero(s: &[u8], at: usize, stop: usize) -> usize
+    requires { ⌜ stop ≤ length (now s) ⌝ }
+    ensures { λ r. ⌜ r ≡ nextZero (now (s .entry)) (stop - at) at ⌝ }
+{
+    let mut i = at;
+    while i < stop {
+        if s[i] == 0 {
+            return i;
+        }
+        i += 1;
+    }
+    i
+}
+
+// The place behind `count` empty strings from `at`, all before `end`.
+fn empty_strings_end(at: usize, end: usize, count: u32) -> Ending
+    requires { ⌜ 0 < count ⌝ }
+    ensures { λ r. ⌜ r ≡ emptyStrings (end - at) at count ⌝ }
+{
+    if end <= at {
+        return Ending::Open;
+    }
+    let room = end - at;
+    let needed = count as usize;
+    if room < needed {
+        return Ending::Open;
+    }
+    Ending::Ends(at + needed)
+}
+
 // The place behind `count` strings in a row from `at`, all before `end`.
 pub fn strings_end(s: &[u8], at: usize, end: usize, count: u32) -> Ending
     ensures { λ r. ⌜ r ≡ stringsFrom (now (s .entry)) (end - at) at count ⌝ }
 {
+    let stop = stop_before(s, end);
     let mut i = at;
     let mut left = count;
-    while i < end {
-        if left == 0 {
-            return Ending::Ends(i);
+    while 0 < left {
+        let zero = next_zero(s, i, stop);
+        if stop <= zero {
+            return empty_strings_end(zero, end, left);
         }
-        let b = byte_at(s, i);
-        i += 1;
-        if b == 0 {
-            left -= 1;
-        }
+        i = zero + 1;
+        left -= 1;
     }
-    if left == 0 {
-        Ending::Ends(i)
-    } else {
-        Ending::Open
-    }
+    Ending::Ends(i)
 }
 
 // Whether a run of strings ended.

@@ -1,5 +1,5 @@
--- Laws of the catalogue: a line past its end (past); what a test of every line says of one (each-line); the rule, from
--- one test over the whole table (lawful-of-test, lawful).
+-- Laws of the catalogue: a line past its end (past), a line of the table (of-table); what a test of every line says of one
+-- (each-line); the rule, from one test over the whole table (lawful-of-test, lawful).
 use Prim.Native.Nat.{ℕ, zero, suc, _+_, _-_, _≤_, _<_}
 use mathlib.Core.Path.{_≡_, refl, sym, ap, _∙_}
 use mathlib.Core.List.{List, [], _∷_}
@@ -30,6 +30,10 @@ length-catalogue = refl
 pub past : (i : ℕ) → lineCount ≤ i → record { tag = 0; ty = 0; count = 0; status = 0 } ≡ lineAt i
 unfolding lineAt
 past i h = ap lineOf (sym (List·getD-eq-default catalogue [] (rw length-catalogue h)))
+
+pub of-table : (i : ℕ) {table : List (List ℕ)} {r : Line} → table ≡ catalogue → r ≡ lineOf (getD table i []) → r ≡ lineAt i
+unfolding lineAt
+of-table i h p = p ∙ ap (λ (rows : List (List ℕ)). lineOf (getD rows i [])) h
 
 -- a line of each part
 signature-at : (i : ℕ) → i < signatureCount → lineAt i ≡ lineOf (getD signatureLines i [])

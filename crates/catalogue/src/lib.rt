@@ -1,6 +1,6 @@
 // The catalogue: what source document 000 says of each tag, with document 01's exceptions and house lines.
 ghost use mathlib.Core.Path.{_≡_};
-ghost use Rattle.catalogue.specs.Catalogue.{lineAt, inEdition, isRequired, isAsLine};
+ghost use Rattle.catalogue.specs.Catalogue.{catalogue, lineOf, lineAt, inEdition, isRequired, isAsLine};
 
 // One line of the catalogue.
 pub struct Line {
@@ -18,6 +18,22 @@ impl Line {
     // How many of them are the signature's, which come first.
     pub const SIGNATURE: usize = 11;
 
+    // The line of four numbers.
+    pub fn of(numbers: [u32; 4]) -> Self
+        ensures { λ r. ⌜ r ≡ lineOf numbers ⌝ }
+    {
+        let tag = numbers[0];
+        let ty = numbers[1];
+        let count = numbers[2];
+        let status = numbers[3];
+        Self {
+            tag,
+            ty,
+            count,
+            status,
+        }
+    }
+
     // Line `i`, counted from 0. Past the end its four numbers are 0.
     pub fn at(i: usize) -> Self
         ensures { λ r. ⌜ r ≡ lineAt i ⌝ }
@@ -30,17 +46,9 @@ impl Line {
                 status: 0,
             };
         }
-        let numbers = CATALOGUE[i];
-        let tag = numbers[0];
-        let ty = numbers[1];
-        let count = numbers[2];
-        let status = numbers[3];
-        Self {
-            tag,
-            ty,
-            count,
-            status,
-        }
+        let lines = table();
+        let numbers = lines[i];
+        Self::of(numbers)
     }
 
     // Whether an edition, from 1 on, has this line.
@@ -63,6 +71,13 @@ impl Line {
     {
         self.ty == ty && (self.count == 0 || self.count == count)
     }
+}
+
+// The whole catalogue, a line to each four numbers.
+pub fn table() -> [[u32; 4]; Line::ALL]
+    ensures { λ r. ⌜ r ≡ catalogue ⌝ }
+{
+    CATALOGUE
 }
 
 // Tag, type, count and status of each line: first the signature's, then the header's, tags rising in each.

@@ -1,7 +1,7 @@
 // Checks 14 and 15: the lines of the catalogue.
 ghost use mathlib.Core.Path.{_≡_};
-ghost use Prim.Native.Nat.{ℕ, _-_};
-ghost use Rattle.catalogue.specs.Catalogue.{inEdition, lineAt};
+ghost use Prim.Native.Nat.{ℕ, _-_, _≤_};
+ghost use Rattle.catalogue.specs.Catalogue.{catalogue, lineCount, inEdition, lineAt};
 ghost use Rattle.rules.specs.Lines.{lineCheck, lineIf, linesFrom, linesCheck};
 use catalogue::Line;
 use format::Section;
@@ -44,12 +44,21 @@ fn line_if(edition: u32, pkg: &[u8], section: Section, line: Line) -> Verdict
 }
 
 // Checks 14 and 15 for the lines from number `from` up to number `to`, in order.
-fn lines_from(edition: u32, pkg: &[u8], section: Section, from: usize, to: usize) -> Verdict
+fn lines_from(
+    edition: u32,
+    table: [[u32; 4]; Line::ALL],
+    pkg: &[u8],
+    section: Section,
+    from: usize,
+    to: usize,
+) -> Verdict
+    requires { ⌜ (table ≡ catalogue) × (to ≤ lineCount) ⌝ }
     ensures { λ r. ⌜ r ≡ linesFrom lineAt (inEdition edition) (now (pkg .entry)) section (to - from) from ⌝ }
 {
     let mut i = from;
     while i < to {
-        let v = line_if(edition, pkg, section, Line::at(i));
+        let numbers = table[i];
+        let v = line_if(edition, pkg, section, Line::of(numbers));
         if let Verdict::Fail(number, place) = v {
             return Verdict::Fail(number, place);
         }
@@ -62,9 +71,10 @@ fn lines_from(edition: u32, pkg: &[u8], section: Section, from: usize, to: usize
 pub(crate) fn check(edition: u32, pkg: &[u8], signature: Section, header: Section) -> Verdict
     ensures { λ r. ⌜ r ≡ linesCheck (inEdition edition) (now (pkg .entry)) signature header ⌝ }
 {
-    let v = lines_from(edition, pkg, signature, 0, Line::SIGNATURE);
+    let table = catalogue::table();
+    let v = lines_from(edition, table, pkg, signature, 0, Line::SIGNATURE);
     if let Verdict::Fail(number, place) = v {
         return Verdict::Fail(number, place);
     }
-    lines_from(edition, pkg, header, Line::SIGNATURE, Line::ALL)
+    lines_from(edition, table, pkg, header, Line::SIGNATURE, Line::ALL)
 }

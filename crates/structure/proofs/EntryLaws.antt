@@ -61,6 +61,10 @@ module _ (s : List ℕ) (section : Section) (e : IndexRecord) {k : ElementSize} 
   unfolding dataEnd
   end-unlawful h = rw (← q, h)
 
+-- a number read at a place
+pub placed : (s : List ℕ) {r at place : ℕ} → r ≡ be32At s at → at ≡ place → r ≡ be32At s place
+placed s h e = h ∙ ap (be32At s) e
+
 -- one of the first k records, in the shape of what is known in a turn: v is what the search began with, r the tag read
 step : (s : List ℕ) (section : Section) (tag k : ℕ)
     → tagBefore s section (suc k) tag ≡ (eqb (be32At s (recordPlace section k)) tag || tagBefore s section k tag)

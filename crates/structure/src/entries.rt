@@ -1,5 +1,6 @@
 // The rules of one index record: checks 9 to 13.
 ghost use mathlib.Core.Path.{_≡_};
+ghost use Prim.Native.Nat.{_<_};
 ghost use Rattle.be.specs.Numbers.{be32At};
 ghost use Rattle.format.specs.Places.{recordPlace};
 ghost use Rattle.structure.specs.Entries.{typeLawful, countRight, isAligned, dataEnd, tagBefore, entryCheck};
@@ -70,12 +71,18 @@ pub(crate) fn data_end(s: &[u8], section: Section, e: IndexRecord) -> Ending
     }
 }
 
-// The tag of record `i`.
-pub(crate) fn tag_at(s: &[u8], section: Section, i: u32) -> u32
+// The tag of record `i`, one of the first `n`.
+pub(crate) fn tag_at(s: &[u8], section: Section, n: u32, i: u32) -> u32
+    requires { ⌜ i < n ⌝ }
     ensures { λ r. ⌜ r ≡ be32At (now (s .entry)) (recordPlace section i) ⌝ }
 {
+    let end = section.index_record(n);
     let place = section.index_record(i);
-    be::be32(s, place.0)
+    let at = place.0;
+    if end.0 <= s.len() {
+        return be::join32(s[at], s[at + 1], s[at + 2], s[at + 3]);
+    }
+    be::be32(s, at)
 }
 
 // Whether one of the first `i` records has the tag (check 13).
@@ -85,7 +92,7 @@ pub(crate) fn tag_before(s: &[u8], section: Section, i: u32, tag: u32) -> bool
     let mut k = i;
     while 0 < k {
         k -= 1;
-        if tag_at(s, section, k) == tag {
+        if tag_at(s, section, i, k) == tag {
             return true;
         }
     }

@@ -110,7 +110,7 @@ pub fn find_tag(s: &[u8], section: Section, tag: u32) -> Tagged
     let n = section.nindex;
     let mut i = 0;
     while i < n {
-        if tag_at(s, section, i) == tag {
+        if tag_at(s, section, n, i) == tag {
             let place = section.index_record(i);
             return Tagged::Present(IndexRecord::at(s, place));
         }

@@ -3,24 +3,30 @@ use borrow.Author.Needs.{needs}
 use Prim.Native.Nat.{_-_}
 use mathlib.Core.Path.{_≡_}
 use Rattle.be.specs.Strings.{stringsFrom}
-use Rattle.be.proofs.StringLaws as strings
+use Rattle.be.proofs.StringLaws as laws
 use Rattle.be.proofs.strings_end.Statement.{statement}
 use Rattle.be.proofs.strings_end.Tie as tie
 
 abbrev Inv-loop : tie.InvT-loop
-Inv-loop s at end count i₀ left₀ i left = stringsFrom s (end - at) at count ≡ stringsFrom s (end - i) i left
+Inv-loop s at end count stop i₀ left₀ i left = stringsFrom s (end - at) at count ≡ stringsFrom s (end - i) i left
 
 abbrev μ-loop : tie.MeasureT-loop
-μ-loop s at end count i₀ left₀ i left = end - i
+μ-loop s at end count stop i₀ left₀ i left = left
+
+stop-before-requires : tie.Need-stop-before-requires Inv-loop μ-loop
+stop-before-requires c κs = search needs
 
 loop-holds : tie.Need-loop-holds Inv-loop μ-loop
 loop-holds c = search needs
 
-returns : tie.Need-returns Inv-loop μ-loop
-returns c = search strings.ends
+next-zero-requires : tie.Need-next-zero-requires Inv-loop μ-loop
+next-zero-requires c κs = search needs
 
-byte-at-requires : tie.Need-byte-at-requires Inv-loop μ-loop
-byte-at-requires c κs = search needs
+empty-strings-end-requires : tie.Need-empty-strings-end-requires Inv-loop μ-loop
+empty-strings-end-requires c κs = search needs
+
+returns : tie.Need-returns Inv-loop μ-loop
+returns c = search laws.ends-empty
 
 add-i : tie.Need-add-i Inv-loop μ-loop
 add-i c = search needs
@@ -32,19 +38,10 @@ loop-less : tie.Need-loop-less Inv-loop μ-loop
 loop-less c = search needs
 
 loop-again : tie.Need-loop-again Inv-loop μ-loop
-loop-again c = search strings.turn-zero
-
-loop-less-2 : tie.Need-loop-less-2 Inv-loop μ-loop
-loop-less-2 c = search needs
-
-loop-again-2 : tie.Need-loop-again-2 Inv-loop μ-loop
-loop-again-2 c = search strings.turn-other
+loop-again c = search laws.turn
 
 returns-2 : tie.Need-returns-2 Inv-loop μ-loop
-returns-2 c = search strings.ends
-
-returns-3 : tie.Need-returns-3 Inv-loop μ-loop
-returns-3 c = search strings.spent
+returns-2 c = search laws.ends
 
 pub strings-end-spec : {M : Type 1} → statement M
 strings-end-spec =
@@ -52,14 +49,13 @@ strings-end-spec =
     (tie.spec
     Inv-loop
     μ-loop
+    stop-before-requires
     loop-holds
+    next-zero-requires
+    empty-strings-end-requires
     returns
-    byte-at-requires
     add-i
     sub-left
     loop-less
     loop-again
-    loop-less-2
-    loop-again-2
-    returns-2
-    returns-3)
+    returns-2)

@@ -6,6 +6,9 @@ use Rattle.rules.specs.Lines.{linesCheck}
 use Rattle.rules.proofs.lines.check.Statement.{statement}
 use Rattle.rules.proofs.lines.check.Tie as tie
 
+table-requires : tie.Need-table-requires
+table-requires c κs = search needs
+
 lines-from-requires : tie.Need-lines-from-requires
 lines-from-requires c κs = search needs
 
@@ -29,4 +32,11 @@ returns-2 c = search (went, halted) depth 12
 pub check-spec : {M : Type 1} → statement M
 check-spec =
     tie.close
-    (tie.spec lines-from-requires enum-known-v returns enum-told lines-from-requires-2 returns-2)
+    (tie.spec
+    table-requires
+    lines-from-requires
+    enum-known-v
+    returns
+    enum-told
+    lines-from-requires-2
+    returns-2)

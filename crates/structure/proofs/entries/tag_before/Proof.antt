@@ -1,18 +1,19 @@
 use borrow.Author.Needs.{needs}
-use mathlib.Core.Path.{_≡_}
+use Prim.Native.Nat.{_≤_}
+use mathlib.Core.Path.{_≡_, refl}
 use Rattle.structure.specs.Entries.{tagBefore}
 use Rattle.structure.proofs.EntryLaws as laws
 use Rattle.structure.proofs.entries.tag_before.Statement.{statement}
 use Rattle.structure.proofs.entries.tag_before.Tie as tie
 
 abbrev Inv-loop : tie.InvT-loop
-Inv-loop s section i tag k₀ k = tagBefore s section i tag ≡ tagBefore s section k tag
+Inv-loop s section i tag k₀ k = (k ≤ i) × (tagBefore s section i tag ≡ tagBefore s section k tag)
 
 abbrev μ-loop : tie.MeasureT-loop
 μ-loop s section i tag k₀ k = k
 
 loop-holds : tie.Need-loop-holds Inv-loop μ-loop
-loop-holds c = search needs
+loop-holds c = (search needs, refl)
 
 sub-k : tie.Need-sub-k Inv-loop μ-loop
 sub-k c = search needs
@@ -27,7 +28,7 @@ loop-less : tie.Need-loop-less Inv-loop μ-loop
 loop-less c = search needs
 
 loop-again : tie.Need-loop-again Inv-loop μ-loop
-loop-again c = search laws.turn
+loop-again c = (search needs, search laws.turn)
 
 returns-2 : tie.Need-returns-2 Inv-loop μ-loop
 returns-2 c = search laws.spent
