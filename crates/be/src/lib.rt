@@ -28,14 +28,28 @@ pub fn join32(a: u8, b: u8, c: u8, d: u8) -> u32
     a as u32 * 16777216 + b as u32 * 65536 + c as u32 * 256 + d as u32
 }
 
-// The 16-bit number at a place.
-pub fn be16(s: &[u8], at: usize) -> u16
+// The 16-bit number at a place of which the slice may end.
+fn be16_cut(s: &[u8], at: usize) -> u16
     ensures { λ r. ⌜ r ≡ be16At (now (s .entry)) at ⌝ }
 {
     if s.len() <= at {
         return 0;
     }
     join16(s[at], byte_at(s, at + 1))
+}
+
+// The 16-bit number at a place.
+pub fn be16(s: &[u8], at: usize) -> u16
+    ensures { λ r. ⌜ r ≡ be16At (now (s .entry)) at ⌝ }
+{
+    let len = s.len();
+    if len < 2 {
+        return be16_cut(s, at);
+    }
+    if len - 2 < at {
+        return be16_cut(s, at);
+    }
+    join16(s[at], s[at + 1])
 }
 
 // The 32-bit number at a place of which the slice may end.

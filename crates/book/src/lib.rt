@@ -3,7 +3,7 @@ ghost use mathlib.Core.Path.{_≡_};
 ghost use Prim.Native.Nat.{_≤_, _<_};
 ghost use lib.ListN.{length};
 ghost use Rattle.book.specs.Kinds.{isWeighed, isKnown};
-ghost use Rattle.book.specs.Book.{recordEnd, places, kindAllowed, bodyFits, weighedRight};
+ghost use Rattle.book.specs.Book.{recordEnd, places, doseAt, kindAllowed, bodyFits, weighedRight};
 ghost use Rattle.book.specs.Book.{recordCheck, recordsCheck, lengthCheck};
 ghost use Rattle.book.specs.Doses.{doses, sumOf, weighedAs, weighed};
 
@@ -77,20 +77,20 @@ fn body_fits(book: &[u8], at: usize) -> bool
     record_end(book, at) <= book.len()
 }
 
-// Check 22.
-fn weighed_right(book: &[u8], at: usize) -> bool
-    requires { ⌜ at < length (now book) ⌝ }
+// Check 22, for a record whose dose, if it has one, is `dose`.
+fn weighed_right(book: &[u8], at: usize, dose: Dose) -> bool
+    requires { ⌜ (at < length (now book)) × (dose ≡ doseAt (now book) at) ⌝ }
     ensures { λ r. ⌜ r ≡ weighedRight (now (book .entry)) at ⌝ }
 {
     if !is_weighed(book[at]) {
         return true;
     }
-    Dose::at(book, at).lawful()
+    dose.lawful()
 }
 
-// Checks 20 to 22 for the record at a place.
-fn record_check(edition: u32, book: &[u8], at: usize) -> Verdict
-    requires { ⌜ (at < length (now book)) × (length (now book) ≤ 4096) ⌝ }
+// Checks 20 to 22 for the record at a place, whose dose, if it has one, is `dose`.
+fn record_check(edition: u32, book: &[u8], at: usize, dose: Dose) -> Verdict
+    requires { ⌜ (at < length (now book)) × (length (now book) ≤ 4096) × (dose ≡ doseAt (now book) at) ⌝ }
     ensures { λ r. ⌜ r ≡ recordCheck (isKnown edition) (now (book .entry)) at ⌝ }
 {
     if !kind_allowed(edition, book[at]) {
@@ -99,7 +99,7 @@ fn record_check(edition: u32, book: &[u8], at: usize) -> Verdict
     if !body_fits(book, at) {
         return Verdict::Fail(21, at as u32);
     }
-    if !weighed_right(book, at) {
+    if !weighed_right(book, at, dose) {
         return Verdict::Fail(22, at as u32);
     }
     Verdict::Pass
@@ -125,14 +125,14 @@ fn records(edition: u32, book: &[u8]) -> Weighed
     let mut count = 0;
     let mut sum: u64 = 0;
     while at < book.len() {
-        let v = record_check(edition, book, at);
+        let dose = Dose::at(book, at);
+        let v = record_check(edition, book, at, dose);
         if let Verdict::Fail(number, place) = v {
             return Weighed::Unsound(number, place);
         }
         let here = at;
         at = record_end(book, here);
         if is_weighed(book[here]) {
-            let dose = Dose::at(book, here);
             sum += dose.milligrams.0 as u64;
             count += 1;
         }

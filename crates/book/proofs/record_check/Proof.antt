@@ -12,8 +12,8 @@ shared-slice-read-kind-allowed c = search needs
 kind-allowed-requires : tie.Need-kind-allowed-requires
 kind-allowed-requires c κs = search needs
 
-cast-t8 : tie.Need-cast-t8
-cast-t8 c = search needs
+cast-t9 : tie.Need-cast-t9
+cast-t9 c = search needs
 
 returns : tie.Need-returns
 unfolding recordCheck
@@ -22,8 +22,8 @@ returns c = search (passed, stopped, answers) depth 14
 body-fits-requires : tie.Need-body-fits-requires
 body-fits-requires c κs = search needs
 
-cast-t9 : tie.Need-cast-t9
-cast-t9 c = search needs
+cast-t10 : tie.Need-cast-t10
+cast-t10 c = search needs
 
 returns-2 : tie.Need-returns-2
 unfolding recordCheck
@@ -32,8 +32,8 @@ returns-2 c = search (passed, stopped, answers) depth 14
 weighed-right-requires : tie.Need-weighed-right-requires
 weighed-right-requires c κs = search needs
 
-cast-t10 : tie.Need-cast-t10
-cast-t10 c = search needs
+cast-t11 : tie.Need-cast-t11
+cast-t11 c = search needs
 
 returns-3 : tie.Need-returns-3
 unfolding recordCheck
@@ -49,12 +49,12 @@ record-check-spec =
     (tie.spec
     shared-slice-read-kind-allowed
     kind-allowed-requires
-    cast-t8
+    cast-t9
     returns
     body-fits-requires
-    cast-t9
+    cast-t10
     returns-2
     weighed-right-requires
-    cast-t10
+    cast-t11
     returns-3
     returns-4)

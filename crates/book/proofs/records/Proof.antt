@@ -27,6 +27,9 @@ abbrev μ-loop : tie.MeasureT-loop
 loop-holds : tie.Need-loop-holds Inv-loop μ-loop
 loop-holds c = (simp sub-zero, simp (sub-zero, zero-add), simp (sub-zero, zero-add), search needs, search needs)
 
+at-requires : tie.Need-at-requires Inv-loop μ-loop
+at-requires c κs = search needs
+
 record-check-requires : tie.Need-record-check-requires Inv-loop μ-loop
 record-check-requires c κs = search needs
 
@@ -47,9 +50,6 @@ shared-slice-read-is-weighed c = search needs
 
 is-weighed-requires : tie.Need-is-weighed-requires Inv-loop μ-loop
 is-weighed-requires c κs = search needs
-
-at-requires : tie.Need-at-requires Inv-loop μ-loop
-at-requires c κs = search needs
 
 cast-sum : tie.Need-cast-sum Inv-loop μ-loop
 cast-sum c = search needs
@@ -83,6 +83,7 @@ records-spec =
     Inv-loop
     μ-loop
     loop-holds
+    at-requires
     record-check-requires
     enum-known-v
     returns
@@ -90,7 +91,6 @@ records-spec =
     record-end-requires
     shared-slice-read-is-weighed
     is-weighed-requires
-    at-requires
     cast-sum
     add-sum
     add-count

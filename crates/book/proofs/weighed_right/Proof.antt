@@ -14,9 +14,6 @@ is-weighed-requires c κs = search needs
 returns : tie.Need-returns
 returns c = search laws.remark
 
-at-requires : tie.Need-at-requires
-at-requires c κs = search needs
-
 lawful-requires : tie.Need-lawful-requires
 lawful-requires c κs = search needs
 
@@ -26,10 +23,4 @@ returns-2 c = search laws.asked-dose
 pub weighed-right-spec : {M : Type 1} → statement M
 weighed-right-spec =
     tie.close
-    (tie.spec
-    shared-slice-read-is-weighed
-    is-weighed-requires
-    returns
-    at-requires
-    lawful-requires
-    returns-2)
+    (tie.spec shared-slice-read-is-weighed is-weighed-requires returns lawful-requires returns-2)
