@@ -1,8 +1,8 @@
 // Doses in a buffer, as numbers and as bytes.
 ghost use mathlib.Core.Path.{_≡_};
-ghost use Prim.Native.Nat.{_+_, _<_, _^_};
+ghost use Prim.Native.Nat.{_+_, _≤_, _<_, _^_};
 ghost use mathlib.Core.List.{[], _∷_};
-ghost use lib.ListN.{set};
+ghost use lib.ListN.{length, set};
 ghost use lib.Seq.{sets};
 ghost use Rattle.book.specs.Doses.{numbersOf, bytesOf, numberBytes, withDoses, withDoseBytes};
 use crate::dose::Dose;
@@ -53,11 +53,27 @@ fn put_byte(out: &mut [u8], i: usize, b: u8)
     }
 }
 
+// Puts a number's four bytes from a place of the buffer on, which has them.
+fn put_whole(out: &mut [u8], i: usize, n: u32)
+    requires { ⌜ i + 4 ≤ length (now out) ⌝ }
+    ensures { λ r. ⌜ now (out .exit) ≡ sets (now (out .entry)) i (bytesOf n) ⌝ }
+{
+    out[i] = (n / 16777216 % 256) as u8;
+    out[i + 1] = (n / 65536 % 256) as u8;
+    out[i + 2] = (n / 256 % 256) as u8;
+    out[i + 3] = (n % 256) as u8;
+}
+
 // Puts a number's four bytes from a place of the buffer on, as far as that has them.
 fn put_number(out: &mut [u8], i: usize, n: u32)
     requires { ⌜ i + 4 < 2 ^ 64 ⌝ }
     ensures { λ r. ⌜ now (out .exit) ≡ sets (now (out .entry)) i (bytesOf n) ⌝ }
 {
+    let end = i + 4;
+    if end <= out.len() {
+        put_whole(out, i, n);
+        return;
+    }
     put_byte(out, i, (n / 16777216 % 256) as u8);
     put_byte(out, i + 1, (n / 65536 % 256) as u8);
     put_byte(out, i + 2, (n / 256 % 256) as u8);
