@@ -10,6 +10,7 @@ data=crates/samples/data
 work=$(mktemp -d)
 trap 'rm -r "$work"' EXIT
 cases=0 numbers=
+mkdir -p target
 gcc -std=c11 -O2 -Wall -Wextra -Werror -pedantic -Iinclude examples/station.c "$lib" -o "$station"
 
 # fail WHAT: ends the tests
