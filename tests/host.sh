@@ -1,0 +1,245 @@
+#!/bin/bash
+# Tests the example host program, examples/station.c, and docs/REFUSALS.md: run from the repository's root, after
+# `rt staticlib station`. STATION_LIB names another library to test.
+set -euo pipefail
+
+lib=${STATION_LIB:-target/staticlib/libstation.a}
+station=target/station
+data=crates/samples/data
+[ -f "$lib" ] || { echo "tests: no $lib (rt staticlib station makes it)" >&2; exit 1; }
+work=$(mktemp -d)
+trap 'rm -r "$work"' EXIT
+cases=0 numbers=
+mkdir -p target
+gcc -std=c11 -O2 -Wall -Wextra -Werror -pedantic -Iinclude examples/station.c "$lib" -o "$station"
+
+# fail WHAT: ends the tests
+fail() {
+    echo "tests: host: $1" >&2
+    exit 1
+}
+
+# runs STATUS ARGUMENT..: the program, which is to end so; its output is left in $work/out and $work/err
+runs() {
+    local want=$1 got=0
+    shift
+    cases=$((cases + 1))
+    "$station" "$@" > "$work/out" 2> "$work/err" || got=$?
+    [ "$got" = "$want" ] || fail "station $*: ended with $got"
+}
+
+# says TEXT: a line of the output has the text
+says() {
+    grep -qF -e "$1" "$work/out" || { cat "$work/out"; fail "no '$1'"; }
+}
+
+# accepts ARGUMENTS LINE..: the whole output
+accepts() {
+    local arguments=$1
+    shift
+    runs 0 $arguments
+    printf '%s\n' "$@" | cmp - "$work/out" || fail "station $arguments"
+    [ ! -s "$work/err" ] || fail "station $arguments: a message"
+}
+
+# refuses ARGUMENTS NUMBER PLACE [TEXT..]: the first line, words for each part, the last line, and these texts
+refuses() {
+    local arguments=$1 number=$2 place=$3 part
+    shift 3
+    runs 1 $arguments
+    [ "$(head -n 1 "$work/out")" = "refused $number at $place" ] || fail "station $arguments: $(head -n 1 "$work/out")"
+    for part in Means Place Often 'To do'; do
+        grep -q "^$part:  [^ ]" "$work/out" || fail "station $arguments: no '$part'"
+    done
+    [ "$(tail -n 1 "$work/out")" = 'Weigh nothing from this package.' ] || fail "station $arguments: the last line"
+    [ ! -s "$work/err" ] || fail "station $arguments: a message"
+    for part in "$@"; do says "$part"; done
+    numbers="$numbers $number"
+}
+
+# trouble WORD ARGUMENT..: nothing but a message that has the word
+trouble() {
+    local word=$1
+    shift
+    runs 2 "$@"
+    [ ! -s "$work/out" ] || fail "station $*: an output"
+    grep -q -e "$word" "$work/err" || fail "station $*: the message"
+}
+
+title='accepted at edition 2: "book", version "1", release "1"'
+accepts "$data/book_example" "$title" 'oxide  27     1250 mg' '1 dose, 1250 mg in all'
+accepts "--edition 2 $data/book_example" "$title" 'oxide  27     1250 mg' '1 dose, 1250 mg in all'
+accepts "--edition 1 $data/book_example" "${title/2/1}" 'oxide  27     1250 mg' '1 dose, 1250 mg in all'
+accepts "--edition 1 $data/check23_sum" "${title/2/1}" 'oxide  27     1250 mg' '1 dose, 1250 mg in all'
+accepts "$data/book_two_kinds" "$title" 'oxide  27     1250 mg' 'oxide   1        1 mg' '2 doses, 1251 mg in all'
+accepts "$data/book_most_milligrams" "$title" 'oxide  27  5000000 mg' '1 dose, 5000000 mg in all'
+accepts "$data/book_no_doses" "$title" '0 doses, 0 mg in all'
+lines=()
+for _ in $(seq 585); do lines+=('oxide  27     1250 mg'); done
+accepts "$data/book_limit" "$title" "${lines[@]}" '585 doses, 731250 mg in all'
+for name in house-one-region house-make-64; do
+    runs 0 "tests/data/$name.rpm"
+    [ "$(tail -n +2 "$work/out")" = $'oxide  27     1250 mg\n1 dose, 1250 mg in all' ] || fail "$name"
+done
+
+refuses "--edition 0 $data/book_example" 1 0 'no place in the package'
+refuses "--edition 3 $data/book_example" 1 0
+refuses "--edition 4294967295 $data/check03_empty" 1 0
+refuses "$data/check02_one_more" 2 0
+refuses "$data/check03_95_bytes" 3 95 "95 bytes, the package's length"
+refuses "$data/check03_empty" 3 0
+refuses "$data/check04_magic" 4 0 "the lead's magic: ED AB EE DA"
+refuses "$data/check04_major" 4 4 "the lead's major version: 04"
+refuses "$data/check04_minor" 4 5 "the lead's minor version: 01"
+refuses "$data/check04_type" 4 6 "the lead's type: 00 01" 'a binary package'
+refuses "$data/check04_name" 4 10 "the lead's name: 78"
+refuses "$data/check04_system" 4 76 "the lead's system: 00 02"
+refuses "$data/check04_signature_type" 4 78 "the lead's signature type: 00 06"
+refuses "$data/check05_signature" 5 96 'where the signature should start; bytes of the package: 111'
+refuses "$data/check05_header" 5 136 'where the header should start; bytes of the package: 151'
+refuses "$data/check05_header_behind_end" 5 136 'where the header should start; bytes of the package: 132'
+refuses "$data/check06_magic" 6 136 'in the header, which starts at 136 with 8E AD E8 02 00 00 00 00'
+refuses "$data/check06_reserved" 6 140 '8E AD E8 01 00 00 00 01'
+refuses "$data/check07_none" 7 144 'records: 0'
+refuses "$data/check07_513" 7 144 'records: 513'
+refuses "$data/check08_largest" 8 148 'bytes of store: 4294967295, bytes of the package: 251'
+refuses "$data/check09_type_5" 9 152 "record 1 of 4 in the header's index" 'tag 1000 (RPMTAG_NAME), type 5'
+refuses "$data/check10_none" 10 168 "record 2 of 4 in the header's index" 'count 0'
+refuses "$data/check11_int32_at_2" 11 152 'tag 1, type 4, offset 2, count 1; bytes of store: 8'
+refuses "$data/check12_product_wraps" 12 152 'count 1073741824'
+refuses "$data/check13_tag_twice" 13 200 'record 4 of 4'
+refuses "$data/check14_signature_1000" 14 1000 "the signature's tag 1000 (SIGTAG_SIGSIZE) is absent"
+refuses "$data/check14_20001" 14 20001 "the header's tag 20001 (the book) is absent" 'right is bin, any count'
+refuses "$data/check14_20002" 14 20002 'the batch weight'
+refuses "$data/check15_20002_type" 15 20002 'is bin, count 4' 'right is int32, count 1'
+refuses "$data/check16_whole_length" 16 1000 '2000 (00 00 07 D0)' 'starts at 168; from there to the end are 784 bytes'
+refuses "$data/check17_digest_alone" 17 1005 "the signature's tag 1005 (SIGTAG_GPG) is absent" '1011 needs it'
+refuses "$data/check17_leader_missing" 17 1081 '1080, 1081, 1082'
+refuses "$data/check17_old_names" 17 1027 'beside it no 1116 to 1118'
+refuses "$data/check18_system" 18 1021 '(RPMTAG_OS)' '"linuxx"'
+refuses "$data/check18_index" 18 1116 '1 (00 00 00 01)'
+refuses "$data/check18_directory" 18 1118 '"/usr/share"'
+refuses "$data/check19_4097_bytes" 19 20001 'count 4097'
+refuses "$data/check20_kind_96" 20 0 'kind 96 (hex), bytes of body: 6, left in the book: 0'
+refuses "--edition 1 $data/book_two_kinds" 20 12 'record: 98 00 01 00 00 00 01 00 05'
+refuses "$data/check21_date_cut" 21 0 'record: 14 00 00'
+refuses "$data/check22_oxide_1000" 22 0 'oxide 1000, 1250 mg'
+refuses "$data/check22_milligrams" 22 0 'oxide 27, 5000001 mg'
+refuses "$data/check23_sum" 23 20002 '1249 (00 00 04 E1)' 'the doses sum to 1250 mg'
+refuses tests/data/rb-one.rpm 14 20001
+refuses tests/data/rb-i18n.rpm 10 4600 'RPMTAG_SUMMARY' 'count 4'
+
+# 24 cannot come up: the program has room for every book
+for number in $(seq 23); do
+    case "$numbers " in *" $number "*) ;; *) fail "no refusal $number" ;; esac
+done
+
+# records of the signature; tags that both structures have
+python=$(command -v python3 || true)
+if [ -n "$python" ]; then
+    # made OPTION..: a package of one dose
+    made() { "$python" tools/make_package.py --book '86 001B 000004E2' "$@" "$work/made" > "$work/line"; }
+    made --without 1000
+    refuses "$work/made" 14 1000 "the header's tag 1000 (RPMTAG_NAME) is absent"
+    made --without 1005
+    refuses "$work/made" 14 1005 "the header's tag 1005 (RPMTAG_DESCRIPTION) is absent"
+    made --signature-entry 1007:string:12
+    refuses "$work/made" 15 1007 "the signature's tag 1007 (SIGTAG_PAYLOADSIZE) is string, count 1" '"12"'
+    made --signature-entry 1004:bin:00
+    refuses "$work/made" 15 1004 "the signature's tag 1004 (SIGTAG_MD5) is bin, count 1" 'right is bin, count 16'
+    made --entry 1007:int32:7,8
+    refuses "$work/made" 15 1007 "the header's tag 1007 (RPMTAG_BUILDHOST) is int32, count 2" '7 (00 00 00 07), ..'
+    made --signature-entry 1012:bin:0102
+    refuses "$work/made" 17 1002 "the signature's tag 1002 (SIGTAG_PGP) is absent"
+    made --entry 1050:strings:a
+    refuses "$work/made" 17 1050 'is string array, count 1' 'tag 1049 (RPMTAG_REQUIRENAME) is string array, count 2'
+    made --entry "1021:string:$(printf 'li\nux"\\\e[31m')"
+    refuses "$work/made" 18 1021 '"li\x0Aux\x22\x5C\x1B[31m"'
+    made --entry "1021:string:$(printf '%064d')"
+    refuses "$work/made" 18 1021 "\"$(printf '%064d')\""
+    made --entry "1021:string:$(printf '%065d')"
+    refuses "$work/made" 18 1021 "\"$(printf '%064d')\".."
+    made --book '98 0001 00000001 0005' --weight 1
+    refuses "$work/made" 23 20002 '1 (00 00 00 01)' 'the doses sum to 1251 mg'
+    { head -c 119 "$work/made"; printf '\5'; tail -c +121 "$work/made"; } > "$work/type"
+    refuses "$work/type" 9 112 "record 1 of 6 in the signature's index"
+fi
+
+# standard input, in pieces and without end
+runs 0 - < "$data/book_example"
+says '1 dose, 1250 mg in all'
+runs 0 - < <(head -c 50 "$data/book_example"; sleep 0.2; tail -c +51 "$data/book_example")
+refuses - 2 0 < /dev/zero
+refuses - 3 0 < /dev/null
+
+# arguments and files
+trouble usage
+trouble usage --edition
+trouble usage --edition 2
+trouble usage --edition 2 "$data/right" more
+trouble usage --edition two "$data/right"
+trouble usage --edition '' "$data/right"
+trouble usage --edition -1 "$data/right"
+trouble usage --edition 4294967296 "$data/right"
+trouble usage --edition 18446744073709551618 "$data/right"
+trouble usage --refusals "$data/right"
+trouble usage --weigh
+trouble 'No such file' "$data/none"
+trouble 'No such file' ''
+trouble 'directory' "$data"
+trouble 'directory' - < "$data"
+trouble 'standard input' - <&-
+
+# an answer that cannot be written
+# unwritten ARGUMENT..: ends with 2 on a full disk, a closed output and a closed pipe
+unwritten() {
+    local got pipe
+    cases=$((cases + 3))
+    got=0; "$station" "$@" > /dev/full 2> "$work/err" || got=$?
+    [ "$got" = 2 ] || fail "station $*: a full disk gives $got"
+    got=0; "$station" "$@" >&- 2> "$work/err" || got=$?
+    [ "$got" = 2 ] || fail "station $*: a closed output gives $got"
+    exec {pipe}> >(true)
+    wait $!
+    got=0; (trap '' PIPE; "$station" "$@" >&"$pipe" 2> "$work/err") || got=$?
+    exec {pipe}>&-
+    [ "$got" = 2 ] || fail "station $*: a closed pipe gives $got"
+}
+unwritten "$data/book_example"
+unwritten "$data/check23_sum"
+unwritten --refusals
+
+# the tables: docs/REFUSALS.md has the program's; include/station.h has the same numbers
+runs 0 --refusals
+sed -n '/^<!-- station --refusals -->$/,/^<!-- end -->$/p' docs/REFUSALS.md | sed '1d;$d' | diff - "$work/out" ||
+    fail 'docs/REFUSALS.md: not the table of station --refusals'
+sed -n 's/^ \*  *\([0-9][0-9]*\)      .*/\1/p' include/station.h > "$work/header"
+sed -n 's/^| \([0-9]*\) | .*/\1/p' "$work/out" | diff "$work/header" - || fail 'include/station.h: other numbers'
+
+# examples/tags.h has the lines of 000's tables, but for document 01's exceptions
+awk -F ' *[|] *' '
+    /^Table/ { table = substr($1, 9) + 0 }
+    $2 ~ /^[0-9]+$/ {
+        count = $4 ~ /^[0-9]+$/ ? $4 : "ANY"
+        required = $4 == "Required" || $5 == "Required" ? "REQUIRED" : "OPTIONAL"
+        if (table <= 7) print 0, $2, $3, $2 ~ /^10(02|05|11|12)$/ ? "ANY" : count, $2 == 100 ? "OPTIONAL" : required, $1
+        if (table == 4 || table > 7) print 1, $2, $3, $2 ~ /^(1047|1114)$/ ? "ANY" : count, required, $1
+    }' tests/reference/tables.txt | sort > "$work/printed"
+awk -F '[{}, "]+' '
+    /signature_lines.. =/ { structure = 0 }
+    /header_lines.. =/ { structure = 1 }
+    $2 ~ /^[0-9]+$/ && $6 ~ /TAG_/ { print structure, $2, $3, $4, $5, $6 }' examples/tags.h | sort > "$work/lines"
+[ "$(wc -l < "$work/lines")" = 80 ] || fail 'examples/tags.h: not 80 lines'
+diff "$work/printed" "$work/lines" || fail 'examples/tags.h: not the printed tables'
+
+# the examples of docs/REFUSALS.md
+if [ -n "$python" ]; then
+    sed -n '/^```console$/,/^```$/p' docs/REFUSALS.md | sed '/^```/d' > "$work/examples"
+    sed -n 's/^\$ //p' "$work/examples" | while read -r line; do
+        printf '$ %s\n' "$line"
+        bash -c "$line" < /dev/null || true
+    done > "$work/out"
+    diff "$work/examples" "$work/out" || fail 'docs/REFUSALS.md: an example is not what the program says'
+fi
+
+echo "tests: host: $cases cases right"
