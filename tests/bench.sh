@@ -1,0 +1,50 @@
+#!/bin/sh
+# Measures the library against the reference: run from the repository's root, after
+# `rt staticlib station`. STATION_LIB names another library to measure.
+#
+#   tests/bench.sh           shows times, ratios and instruction counts
+#   tests/bench.sh --write   writes them to docs/PERFORMANCE.md and docs/performance.svg
+#   tests/bench.sh --check   fails where the library needs over 1.2 times the instructions
+#   tests/bench.sh --build   only builds target/bench/bench
+#
+# Needs rustc and Python 3; instructions are counted where valgrind is there.
+set -eu
+
+lib=${STATION_LIB:-target/staticlib/libstation.a}
+out=target/bench
+rust="rustc --edition 2021 -C opt-level=3 -D warnings"
+mode=${1:---show}
+
+case $mode in
+--show | --write | --check | --build) ;;
+*) echo "usage: tests/bench.sh [--write | --check | --build]" >&2; exit 2 ;;
+esac
+[ -f "$lib" ] || { echo "bench: no $lib (rt staticlib station makes it)" >&2; exit 1; }
+
+mkdir -p "$out"
+$rust --crate-type rlib --crate-name reference tests/reference/lib.rs -o "$out/libreference.rlib"
+$rust tests/bench/main.rs --extern "reference=$out/libreference.rlib" \
+    -C "link-arg=$lib" -o "$out/bench"
+
+# count PART-OF-A-NAME: the cases to target/bench/counts/cases, a file per call beside it
+count() {
+    rm -rf "$out/counts"
+    command -v valgrind > /dev/null || { echo "bench: no valgrind here, nothing is counted" >&2; return; }
+    mkdir "$out/counts"
+    valgrind -q --tool=callgrind --callgrind-out-file="$out/counts/call" \
+        --zero-before=counted_call --dump-after=counted_call \
+        "$out/bench" counts tests/data "$1" > "$out/counts/cases"
+}
+
+case $mode in
+--build) ;;
+--check)
+    count " records, "
+    python3 tests/bench/report.py check "$out"
+    ;;
+*)
+    count ""
+    "$out/bench" times tests/data > "$out/times"
+    python3 tests/bench/report.py "${mode#--}" "$out"
+    ;;
+esac

@@ -1,0 +1,235 @@
+//! What is measured: a package and a call on it.
+
+use std::hint::black_box;
+use std::path::Path;
+
+use reference::{reading, Record};
+
+use crate::packages::{accepted, free, Order, Plan, ORDERS, USUAL};
+
+extern "C" {
+    fn station_read(
+        edition: u32,
+        package: *const u8,
+        len: usize,
+        doses: *mut u8,
+        room: usize,
+    ) -> u64;
+    fn station_find(package: *const u8, len: usize, structure: u32, tag: u32, ty: u32) -> u64;
+    fn station_find_element(
+        package: *const u8,
+        len: usize,
+        structure: u32,
+        tag: u32,
+        ty: u32,
+        element: u32,
+    ) -> u64;
+}
+
+#[derive(Clone, Copy)]
+pub enum Call {
+    /// Edition.
+    Read(u32),
+    /// Structure, tag, type.
+    Find(u32, u32, u32),
+    /// Structure, tag, type, element.
+    Element(u32, u32, u32, u32),
+}
+
+#[derive(Clone, Copy, PartialEq, Eq)]
+pub enum Side {
+    Library,
+    Reference,
+}
+
+pub const SIDES: [Side; 2] = [Side::Library, Side::Reference];
+
+/// A dose buffer with room for any book's doses.
+#[derive(PartialEq)]
+pub struct Doses(Vec<u8>);
+
+impl Doses {
+    pub fn new() -> Doses {
+        Doses(vec![0xA5; 585 * 8])
+    }
+}
+
+pub struct Case {
+    /// The table it belongs to.
+    pub group: &'static str,
+    pub name: String,
+    pub package: Vec<u8>,
+    call: Call,
+}
+
+impl Case {
+    #[inline(never)]
+    fn library(&self, Doses(doses): &mut Doses) -> u64 {
+        let package = black_box(&self.package[..]);
+        let (at, len) = (package.as_ptr(), package.len());
+        match black_box(self.call) {
+            Call::Read(edition) => unsafe {
+                station_read(edition, at, len, doses.as_mut_ptr(), doses.len())
+            },
+            Call::Find(structure, tag, ty) => unsafe { station_find(at, len, structure, tag, ty) },
+            Call::Element(structure, tag, ty, element) => unsafe {
+                station_find_element(at, len, structure, tag, ty, element)
+            },
+        }
+    }
+
+    #[inline(never)]
+    fn reference(&self, Doses(doses): &mut Doses) -> u64 {
+        let package = black_box(&self.package[..]);
+        match black_box(self.call) {
+            Call::Read(edition) => reading::read_for_c(edition, package, doses),
+            Call::Find(structure, tag, ty) => {
+                reference::answer(&reference::find(package, structure, tag, ty))
+            }
+            Call::Element(structure, tag, ty, element) => {
+                let part = reference::find_element(package, structure, tag, ty, element);
+                reference::answer(&part)
+            }
+        }
+    }
+
+    /// One call.
+    pub fn run(&self, side: Side, doses: &mut Doses) -> u64 {
+        match side {
+            Side::Library => self.library(doses),
+            Side::Reference => self.reference(doses),
+        }
+    }
+
+    /// The answer; library and reference must agree on it and on the doses.
+    pub fn answer(&self) -> u64 {
+        let [library, reference] = SIDES.map(|side| {
+            let mut doses = Doses::new();
+            (self.run(side, &mut doses), doses)
+        });
+        assert!(library == reference, "{}: the answers differ", self.name);
+        library.0
+    }
+}
+
+fn read(group: &'static str, name: String, package: Vec<u8>) -> Case {
+    Case {
+        group,
+        name,
+        package,
+        call: Call::Read(2),
+    }
+}
+
+/// Readings of accepted packages.
+pub fn readings() -> Vec<Case> {
+    let mut cases = Vec::new();
+    for records in [64, 512] {
+        for (order, name) in ORDERS {
+            let package = accepted(records, order, &USUAL);
+            cases.push(read(
+                "reading",
+                format!("{records} records, {name} tags"),
+                package,
+            ));
+        }
+    }
+    let doses = Plan {
+        doses: 585,
+        ..USUAL
+    };
+    let files = Plan {
+        files: 300,
+        requires: 100,
+        ..USUAL
+    };
+    for (plan, name) in [(doses, "585 doses"), (files, "300 files, 100 requires")] {
+        let package = accepted(64, Order::Rising, &plan);
+        cases.push(read("reading", format!("64 records, {name}"), package));
+    }
+    cases
+}
+
+/// Look-ups of entries and of elements.
+pub fn look_ups() -> Vec<Case> {
+    let mut cases = Vec::new();
+    for records in [64, 512] {
+        let package = accepted(records, Order::Rising, &USUAL);
+        let opened = reference::sound(&package).unwrap();
+        let header: Vec<Record> = opened.header.records().collect();
+        let find = |position: usize| Call::Find(1, header[position].tag, header[position].ty);
+        let files = USUAL.files as u32;
+        let absent = free(0).0 + 1;
+        for (group, name, call) in [
+            ("look-up", "first tag", find(0)),
+            ("look-up", "middle tag", find(records / 2)),
+            ("look-up", "last tag", find(records - 1)),
+            ("look-up", "absent tag", Call::Find(1, absent, 4)),
+            ("look-up", "a tag of the signature", Call::Find(0, 1000, 4)),
+            ("element", "first string of 8", Call::Element(1, 1117, 8, 0)),
+            (
+                "element",
+                "last string of 8",
+                Call::Element(1, 1117, 8, files - 1),
+            ),
+            (
+                "element",
+                "last number of 8",
+                Call::Element(1, 1116, 4, files - 1),
+            ),
+            (
+                "element",
+                "a number too far",
+                Call::Element(1, 1116, 4, files),
+            ),
+        ] {
+            cases.push(Case {
+                group,
+                name: format!("{records} records, {name}"),
+                package: package.clone(),
+                call,
+            });
+        }
+    }
+    cases
+}
+
+/// Readings of the packages in a folder, and look-ups of 1126 in them.
+pub fn data(folder: &Path) -> Vec<Case> {
+    let mut paths: Vec<_> = std::fs::read_dir(folder)
+        .unwrap()
+        .map(|entry| entry.unwrap().path())
+        .filter(|path| path.extension().is_some_and(|ending| ending == "rpm"))
+        .collect();
+    paths.sort();
+    let mut cases = Vec::new();
+    for (group, call) in [
+        ("data reading", Call::Read(2)),
+        ("data look-up", Call::Find(1, 1126, 6)),
+    ] {
+        for path in &paths {
+            cases.push(Case {
+                group,
+                name: path.file_name().unwrap().to_string_lossy().into_owned(),
+                package: std::fs::read(path).unwrap(),
+                call,
+            });
+        }
+    }
+    cases
+}
+
+/// Readings of more and more records.
+pub fn growth() -> Vec<Case> {
+    let mut cases = Vec::new();
+    for (group, order) in [
+        ("growth rising", Order::Rising),
+        ("growth shuffled", Order::Shuffled),
+    ] {
+        for records in [48, 64, 128, 192, 256, 320, 384, 448, 512] {
+            let package = accepted(records, order, &USUAL);
+            cases.push(read(group, records.to_string(), package));
+        }
+    }
+    cases
+}

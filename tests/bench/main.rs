@@ -1,0 +1,49 @@
+//! Measures the C calls of libstation.a against the reference.
+//!
+//!     bench times DATA-FOLDER [PART-OF-A-NAME]
+//!     bench counts DATA-FOLDER [PART-OF-A-NAME]
+//!
+//! A line for each case, its columns apart by tabs; report.py makes tables of them.
+
+mod cases;
+#[path = "../compare/content.rs"]
+#[allow(dead_code)]
+mod content;
+mod counts;
+#[path = "../compare/maker.rs"]
+#[allow(dead_code)]
+mod maker;
+mod packages;
+#[path = "../compare/random.rs"]
+#[allow(dead_code)]
+mod random;
+mod times;
+
+use std::path::Path;
+
+use cases::Case;
+
+fn main() {
+    let words: Vec<String> = std::env::args().skip(1).collect();
+    let words: Vec<&str> = words.iter().map(String::as_str).collect();
+    match words[..] {
+        ["times", data] => times::all(&cases(data, "")),
+        ["times", data, part] => times::all(&cases(data, part)),
+        ["counts", data] => counts::all(&cases(data, "")),
+        ["counts", data, part] => counts::all(&cases(data, part)),
+        _ => {
+            eprintln!("usage: bench times|counts DATA-FOLDER [PART-OF-A-NAME]");
+            std::process::exit(2)
+        }
+    }
+}
+
+/// The cases with that text in their group and name.
+fn cases(data: &str, part: &str) -> Vec<Case> {
+    let mut all = cases::readings();
+    all.extend(cases::look_ups());
+    all.extend(cases::data(Path::new(data)));
+    all.extend(cases::growth());
+    all.retain(|case| format!("{} {}", case.group, case.name).contains(part));
+    all
+}

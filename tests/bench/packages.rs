@@ -1,0 +1,166 @@
+//! Accepted packages of any number of header records.
+
+use reference::catalogue::{self, Count, Line, Status};
+
+use crate::content::*;
+use crate::maker::size_of;
+use crate::random::Random;
+
+/// The order of the header's records and of their data.
+#[derive(Clone, Copy)]
+pub enum Order {
+    Rising,
+    Falling,
+    Shuffled,
+}
+
+pub const ORDERS: [(Order, &str); 3] = [
+    (Order::Rising, "rising"),
+    (Order::Falling, "falling"),
+    (Order::Shuffled, "shuffled"),
+];
+
+/// How much the entries hold.
+pub struct Plan {
+    pub files: usize,
+    pub requires: usize,
+    pub doses: usize,
+}
+
+pub const USUAL: Plan = Plan {
+    files: 8,
+    requires: 6,
+    doses: 24,
+};
+
+const DIRECTORIES: usize = 3;
+const PROVIDES: usize = 2;
+/// Conflicts, obsoletes and changes.
+const OTHERS: usize = 2;
+
+/// The header records of `Content::least`.
+const LEAST_RECORDS: usize = 37;
+
+/// Lines that may be absent; those that need one another stand together.
+#[rustfmt::skip]
+const OPTIONAL: [&[u32]; 23] = [
+    &[63], &[1006], &[1007], &[1010], &[1011], &[1020], &[1044], &[1045], &[1046], &[1064], &[1094],
+    &[1122], &[1123], &[1131], &[1132], &[62], &[1080, 1081, 1082], &[1023, 1085], &[1024, 1086],
+    &[1025, 1087], &[1026, 1088], &[1053, 1054, 1055], &[1090, 1114, 1115],
+];
+
+/// A tag that has no line, a type and a count. The tags rise, by more than 1.
+pub fn free(position: usize) -> (u32, u32, usize) {
+    let ty = [6, 4, 8, 7, 3, 9, 1, 2][position % 8];
+    let count = match ty {
+        6 | 9 => 1,
+        _ => 1 + position % 4,
+    };
+    (5000 + 7 * position as u32, ty, count)
+}
+
+fn count(plan: &Plan, line: &Line) -> usize {
+    match (line.count, line.tag) {
+        (Count::Exactly(count), _) => count as usize,
+        (_, 1118) => DIRECTORIES,
+        (_, 1028..=1045 | 1095..=1097 | 1116 | 1117) => plan.files,
+        (_, 1048..=1050) => plan.requires,
+        (_, 1047 | 1112 | 1113) => PROVIDES,
+        (_, 100) => 1,
+        (_, 1002 | 1005 | 1011 | 1012) => 152,
+        _ => OTHERS,
+    }
+}
+
+fn text(tag: u32, position: usize) -> String {
+    match tag {
+        1021 => "linux".to_string(),
+        1085..=1088 => "/bin/sh".to_string(),
+        1118 => format!("/srv/books/{position}/"),
+        _ => format!("text {position} of {tag}"),
+    }
+}
+
+/// Right data for a tag.
+fn item(tag: u32, ty: u32, count: usize) -> Item {
+    match size_of(ty) {
+        None => {
+            let texts: Vec<String> = (0..count).map(|position| text(tag, position)).collect();
+            strings(tag, ty, &texts)
+        }
+        Some(4) => {
+            let number = |position| (position % DIRECTORIES) as u32;
+            words(tag, &(0..count).map(number).collect::<Vec<_>>())
+        }
+        Some(size) => Item {
+            tag,
+            ty,
+            count: count as u32,
+            data: (0..size * count).map(|byte| byte as u8).collect(),
+        },
+    }
+}
+
+/// A book of so many doses, with pages between them where it is not long, and its weight.
+fn book(doses: usize) -> (Vec<u8>, u32) {
+    let mut bytes = Vec::new();
+    let mut weight = 0;
+    for position in 0..doses {
+        if position % 4 == 0 && doses < 400 {
+            bytes.extend([0x02, 0, position as u8]);
+        }
+        let milligrams = 1250 + position as u32;
+        bytes.push(0x86);
+        bytes.extend((1 + position as u16 % 999).to_be_bytes());
+        bytes.extend(milligrams.to_be_bytes());
+        weight += milligrams;
+    }
+    (bytes, weight)
+}
+
+/// Optional lines for a header of so many records: up to three of four records
+/// beyond the least.
+fn optional(records: usize) -> Vec<u32> {
+    let most = (records - LEAST_RECORDS) * 3 / 4;
+    let mut tags = Vec::new();
+    for group in OPTIONAL {
+        if tags.len() + group.len() <= most {
+            tags.extend(group);
+        }
+    }
+    tags
+}
+
+/// An accepted package of at least 37 header records: the least, optional lines, and
+/// tags that have no line. The signature has every line.
+pub fn accepted(records: usize, order: Order, plan: &Plan) -> Vec<u8> {
+    let (bytes, weight) = book(plan.doses);
+    let mut content = Content::least(&bytes, weight);
+    let extra = optional(records);
+    for line in &catalogue::HEADER {
+        let present = content.get(HEADER, line.tag).is_some() || extra.contains(&line.tag);
+        if present && line.tag < 20_001 {
+            content.put(HEADER, item(line.tag, line.ty, count(plan, line)));
+        }
+    }
+    for line in &catalogue::SIGNATURE {
+        if line.status != Status::Required {
+            content.put(SIGNATURE, item(line.tag, line.ty, count(plan, line)));
+        }
+    }
+    for position in 0..records - content.items[HEADER].len() {
+        let (tag, ty, count) = free(position);
+        content.put(HEADER, item(tag, ty, count));
+    }
+    for items in &mut content.items {
+        items.sort_by_key(|item| item.tag);
+    }
+    let header = &mut content.items[HEADER];
+    match order {
+        Order::Rising => {}
+        Order::Falling => header.reverse(),
+        Order::Shuffled => Random::new(records as u64).shuffle(header),
+    }
+    content.payload = vec![0x55; 64];
+    content.bytes()
+}
