@@ -36,7 +36,10 @@ const OXIDES: [u16; 8] = [0, 1, 2, 27, 998, 999, 1000, 0xFFFF];
 const MILLIGRAMS: [u32; 9] = [
     0, 1, 1250, 65_536, 4_999_999, 5_000_000, 5_000_001, 1 << 31, u32::MAX,
 ];
-const EDITIONS: [u32; 8] = [0, 1, 2, 3, 257, 258, 1 << 31, u32::MAX];
+#[rustfmt::skip]
+const EDITIONS: [u32; 12] = [
+    0, 1, 2, 3, 257, 258, 65_537, 65_538, 1 << 31, (1 << 31) + 1, (1 << 31) + 2, u32::MAX,
+];
 
 /// Changes an input in one to three ways; `most` is how long it may get.
 pub fn change(input: &mut Vec<u8>, random: &mut Random, most: usize) {
@@ -111,10 +114,11 @@ fn word(input: &[u8], at: usize) -> u32 {
     u32::from_be_bytes(four.try_into().unwrap())
 }
 
-/// A number near this one, or an extreme one.
+/// A number near this one, or with the same low bits, or an extreme one.
 fn near(random: &mut Random, number: u32) -> u32 {
-    match random.below(4) {
+    match random.below(5) {
         0 => random.pick(&EXTREMES),
+        3 => number.wrapping_add(random.pick(&[1 << 8, 1 << 16, 1 << 24])),
         1 => number.wrapping_sub(1 + random.below(4) as u32),
         2 => number.wrapping_add(1 + random.below(4) as u32),
         _ => number ^ 1 << random.below(32),
@@ -184,17 +188,18 @@ fn either<'a>(
 fn change_parts(package: &mut Package, random: &mut Random) {
     let files = position(&package.header, 1028).map_or(1, |at| package.header.records[at][3]);
     let files = files.clamp(1, 8);
-    match random.below(16) {
+    match random.below(18) {
         0..=3 => change_book(&mut package.header, random),
-        4 => change_group(package, random),
-        5 => change_files(&mut package.header, random),
-        6 => change_rest(package, random),
+        4 | 5 => change_group(package, random),
+        6 => change_files(&mut package.header, random),
+        7 => change_text(&mut package.header, random),
+        8 => change_rest(package, random),
         n => {
             let (structure, lines) = either(package, random);
             match n {
-                7 | 8 => change_field(structure, lines, random),
-                9 | 10 => change_data(structure, random),
-                11 | 12 => {
+                9 | 10 => change_field(structure, lines, random),
+                11 | 12 => change_data(structure, random),
+                13 | 14 => {
                     let any = 1 + random.below(3) as u32;
                     let count = random.pick(&[any, files]);
                     let line = random_line(lines, random);
@@ -283,13 +288,25 @@ fn change_group(package: &mut Package, random: &mut Random) {
         let line = lines.iter().find(|line| line.tag == tag);
         match random.below(8) {
             0 => structure.records.retain(|record| record[0] != tag),
-            1 => {}
+            1 => put_line(structure, random, line.expect("a line"), count % 3 + 1),
+            2 => {}
             _ => put_line(structure, random, line.expect("a line"), count),
         }
     }
     if structure.records.is_empty() {
         put(structure, 1000, 4, 1, &[0; 4]);
     }
+}
+
+/// Texts for a tag that check 18 looks at.
+fn change_text(header: &mut Structure, random: &mut Random) {
+    let tag = random.pick(&[1021, 1085, 1086, 1087, 1088, 1118, 1118]);
+    let (ty, count) = match tag {
+        1118 => (8, 1 + random.below(3) as u32),
+        _ => (6, 1),
+    };
+    let texts: Vec<u8> = (0..count).flat_map(|_| any_text(random)).collect();
+    put(header, tag, ty, count, &texts);
 }
 
 /// Another number of files, with names in one form or the other.
@@ -317,11 +334,15 @@ fn change_files(header: &mut Structure, random: &mut Random) {
 /// What stands outside the entries.
 fn change_rest(package: &mut Package, random: &mut Random) {
     let count = random.below(24);
-    match random.below(5) {
+    match random.below(6) {
         0 => package.gap = random.byte(),
         1 => package.payload = random.bytes(count),
         2 => package.signature.store.extend(random.bytes(count)),
         3 => package.header.store.extend(random.bytes(count)),
+        4 => {
+            let store = &mut package.header.store;
+            store.resize(store.len() + random.below(60_000), 0);
+        }
         _ => {
             let store = &mut package.header.store;
             store.truncate(store.len().saturating_sub(1 + count / 4));
@@ -384,9 +405,12 @@ fn change_book(header: &mut Structure, random: &mut Random) {
     if book.is_empty() {
         book.push(kind);
     }
-    if random.one_in(128) {
+    match random.below(128) {
         // Around the limit of 4,096 bytes.
-        book.resize(4094 + random.below(5), 0);
+        0 => book.resize(4094 + random.below(5), 0),
+        // Many doses, of the largest sum.
+        1 => book = [0x86, 0, 1, 0, 0x4C, 0x4B, 0x40].repeat(random.pick(&[200, 430, 585])),
+        _ => {}
     }
     put(header, 20001, 7, book.len() as u32, &book);
 }

@@ -24,6 +24,7 @@ OUT = pathlib.Path('target/host/fuzz-faults')
 COPY = OUT / 'reference'
 LIBRARY = OUT / 'libstation.so'
 RUST = ['rustc', '--edition', '2021', '-O', '-A', 'warnings']
+SHORT_RUN = '30000'  # as in tests/fuzz.sh
 CORPUS = len(list(pathlib.Path('tests/fuzz/corpus').iterdir()))
 
 
@@ -43,7 +44,7 @@ def fuzz(*minutes):
 
 def short_run():
     """The same over the stand-in as it is now, built once."""
-    done = subprocess.run(['target/host/fuzz/plain', 'tests/fuzz/corpus', OUT / 'difference.rpm', '30000'],
+    done = subprocess.run(['target/host/fuzz/plain', 'tests/fuzz/corpus', OUT / 'difference.rpm', SHORT_RUN],
                           capture_output=True, text=True)
     return done.returncode, done.stdout + done.stderr
 

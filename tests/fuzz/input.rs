@@ -7,7 +7,8 @@
 //! | 84-85 | the length of a dose buffer; with the top bit set it is near what the doses need |
 //! | 86-87 | how many zero bytes are put behind the input |
 //! | 88-91 | a look-up's tag |
-//! | 92, 93, 94-95 | its type, structure and element, signed, so that large numbers come up |
+//! | 92, 93 | its type and structure, signed, so that large numbers come up |
+//! | 94, 95 | its element: the upper half, signed, and the lower half |
 
 use crate::bench::Question;
 use crate::maker::{Package, Structure, S};
@@ -45,7 +46,7 @@ impl Asked {
                 structure: structure as i8 as u32,
                 tag,
                 ty: ty as i8 as u32,
-                element: Some(i16::from_be_bytes([n0, n1]) as u32),
+                element: Some((n0 as i8 as u32) << 16 | u32::from(n1)),
             },
             seed: u64::from_be_bytes([t0, t1, t2, t3, ty, structure, n0, n1]),
         }

@@ -38,6 +38,12 @@ def ask(bits, edition=3, room=0x8010, fill=0, tag=20001, ty=BIN, structure=1, el
     return put(80, struct.pack('>IHHIbbh', edition, room, fill, tag, ty, structure, element), bits)
 
 
+def short(bits):
+    """The package with its last zero bytes left out; they are put behind the input."""
+    kept = len(bits.rstrip(b'\0')) + 8
+    return ask(bits[:kept], fill=len(bits) - kept)
+
+
 def field(bits, structure, tag, number, value):
     """The package with one number of a tag's index record changed."""
     start = {S: S, H: header_start(bits)}[structure]
@@ -115,6 +121,8 @@ SEEDS = {
     'accepted_both_signed': both(right(DOSE, signature={
         62: (BIN, bytes(16)), 1002: (BIN, bytes(5)), 1005: (BIN, bytes(3)), 1007: (INT32, [0]),
         1010: (STRING, b'a'), 1011: (BIN, b'1'), 1012: (BIN, b'2')}), '0@1'),
+    'accepted_both_large_entry': both(short(right(DOSE, header={30001: (BIN, bytes(60000))})), '0@1'),
+    'accepted_both_long_name': both(put(10, b'x' * 65 + b'\0', RIGHT), '0@1'),
     'accepted_edition_2_tolerance': (right(TOLERATED), '20@0', '0@1'),
     'accepted_edition_2_all_kinds': (right(PAGE + DOSE + DATE + TOLERATED), '20@15', '0@2'),
     'accepted_edition_1_no_weight': (right(DOSE, drop=[20002]), '0@1', '14@20002'),
@@ -153,6 +161,7 @@ SEEDS = {
     'check18_program': wrong_entry('18@1087', 1087, STRING, b'/bin/bash'),
     'check18_index': wrong_entry('18@1116', 1116, INT32, [1]),
     'check18_folder': wrong_entry('18@1118', 1118, STRINGS, [b'/usr/share']),
+    'check19_4097_bytes': both(short(right(DOSE + bytes(4090), batch=0)), '19@20001'),
     'check20_kind_96': book('96', '20@0'),
     'check21_page': book('86 001B 000004E2 02 00', '21@7'),
     'check22_oxide_1000': book('02 0007 86 03E8 000004E2', '22@3'),
@@ -162,16 +171,6 @@ SEEDS = {
     'check25_other_type': both(ask(RIGHT, tag=1028, ty=INT16), '0@1'),
     'check26_element': both(ask(RIGHT, tag=1028, ty=INT32, element=1), '0@1'),
 }
-
-
-def long_book():
-    """A book of 4,097 bytes, most of them zero bytes that are put behind the input."""
-    bits = right(DOSE + bytes(4090), batch=0)
-    kept = len(bits.rstrip(b'\0')) + 8
-    return ask(bits[:kept], fill=len(bits) - kept)
-
-
-SEEDS['check19_4097_bytes'] = both(long_book(), '19@20001')
 
 
 def main():

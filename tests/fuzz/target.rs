@@ -109,7 +109,7 @@ impl Target {
         self.desk.bench.comparisons
     }
 
-    /// A line for each who answered, with the numbers that came up.
+    /// How often each number came up; a line for each of `ASKED`.
     pub fn summary(&self) -> String {
         let mut lines = String::new();
         for (who, numbers) in ASKED.iter().zip(&self.numbers) {
@@ -126,7 +126,7 @@ fn number(bytes: &[u8], at: usize) -> usize {
     u32::from_be_bytes(four.try_into().unwrap()) as usize
 }
 
-/// Where the two structures start, if the first leaves room for the second.
+/// The numbers of the two structures, and where they start.
 fn starts(package: &[u8]) -> [(u32, usize); 2] {
     let end = S + 16 + 16 * number(package, S + 8) + number(package, S + 12);
     [(0, S), (1, end.next_multiple_of(8))]
