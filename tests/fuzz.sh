@@ -60,7 +60,7 @@ stat() {
 }
 
 long_run() {
-    rm -rf "$out/findings"
+    rm -rf "$out/findings" "$report"
     mkdir -p "$out/found" "$out/findings"
     status=0
     begun=$(date +%s)
@@ -69,17 +69,18 @@ long_run() {
         -max_len=8192 -len_control=0 -print_final_stats=1 -artifact_prefix="$out/findings/" \
         "$out/found" "$corpus" > "$out/log" 2>&1 || status=$?
     seconds=$(($(date +%s) - begun))
-    [ "$status" = 0 ] || grep -a -v '^#[0-9]' "$out/log" | tail -n 40
+    [ "$status" = 0 ] || grep -a -A 2 -e DIFFERENCE -e '^SUMMARY' "$out/log" || tail -n 40 "$out/log"
     executions=$(stat number_of_executed_units)
+    executions=${executions:-0}
     findings=$(find "$out/findings" -type f | wc -l)
     echo "fuzz: libFuzzer, $(clang --version | head -n 1), seed $2"
-    echo "fuzz: ${executions:-0} executions in $seconds s ($((${executions:-0} / (seconds + !seconds))) a second)"
-    grep -a '^#[0-9].* cov: ' "$out/log" | tail -n 1 |
-        sed 's/^.* cov: \([0-9]*\) ft: \([0-9]*\) corp: \([0-9]*\).*/fuzz: \1 edges of the reference, \2 features, \3 inputs kept/'
+    echo "fuzz: $executions executions in $seconds s ($((executions / (seconds + !seconds))) a second)"
+    grep -a '^#[0-9].* cov: ' "$out/log" | tail -n 1 | sed \
+        's/^.* cov: \([0-9]*\) ft: \([0-9]*\) corp: \([0-9]*\).*/fuzz: coverage: \1 edges of the reference, \2 features; \3 inputs kept/'
     sed -n '/^fuzz: .*answers/p' "$out/log"
     echo "fuzz: $findings findings"
-    for finding in "$out/findings"/*; do
-        [ ! -f "$finding" ] || echo "fuzz: the input is in $finding, its package in $report"
+    for file in "$out/findings"/* "$report"; do
+        [ ! -f "$file" ] || echo "fuzz: see $file"
     done
     [ "$status" = 0 ] && [ "$findings" = 0 ]
 }

@@ -13,7 +13,7 @@ import sys
 
 sys.dont_write_bytecode = True
 sys.path.insert(0, str(pathlib.Path(__file__).resolve().parents[2] / 'tools'))
-from make_samples import accepted, put, word  # noqa: E402
+from make_samples import accepted as right, put, word  # noqa: E402
 from rpmfile import BIN, CHAR, I18N, INT16, INT32, INT8, STRING, STRINGS  # noqa: E402
 
 FOLDER = pathlib.Path('tests/fuzz/corpus')
@@ -28,20 +28,15 @@ TOLERATED = bytes.fromhex('98 0001 00000001 0005')
 S, H = 96, 168
 
 
-def right(bits, **asked):
-    """A package with this book, and nothing wrong unless asked."""
-    return accepted(bits, **asked)
-
-
 def ask(bits, edition=3, room=0x8010, fill=0, tag=20001, ty=BIN, structure=1, element=0):
     """The package with what is asked of it."""
     return put(80, struct.pack('>IHHIbbh', edition, room, fill, tag, ty, structure, element), bits)
 
 
-def short(bits):
+def short(bits, **asked):
     """The package with its last zero bytes left out; they are put behind the input."""
     kept = len(bits.rstrip(b'\0')) + 8
-    return ask(bits[:kept], fill=len(bits) - kept)
+    return ask(bits[:kept], fill=len(bits) - kept, **asked)
 
 
 def field(bits, structure, tag, number, value):
@@ -70,9 +65,8 @@ def both(bits, answer):
     return bits, answer, answer
 
 
-def book(text, *answers):
-    bits = bytes.fromhex(text)
-    return right(bits), answers[0], answers[-1]
+def book(text, answer):
+    return both(right(bytes.fromhex(text)), answer)
 
 
 def wrong_entry(answer, tag, ty, value):
@@ -121,7 +115,8 @@ SEEDS = {
     'accepted_both_signed': both(right(DOSE, signature={
         62: (BIN, bytes(16)), 1002: (BIN, bytes(5)), 1005: (BIN, bytes(3)), 1007: (INT32, [0]),
         1010: (STRING, b'a'), 1011: (BIN, b'1'), 1012: (BIN, b'2')}), '0@1'),
-    'accepted_both_large_entry': both(short(right(DOSE, header={30001: (BIN, bytes(60000))})), '0@1'),
+    'accepted_both_far_entry': both(
+        short(right(DOSE, header={30001: (BIN, bytes(60000)), 30002: (INT8, [0])}), tag=30002, ty=INT8), '0@1'),
     'accepted_both_long_name': both(put(10, b'x' * 65 + b'\0', RIGHT), '0@1'),
     'accepted_edition_2_tolerance': (right(TOLERATED), '20@0', '0@1'),
     'accepted_edition_2_all_kinds': (right(PAGE + DOSE + DATE + TOLERATED), '20@15', '0@2'),
