@@ -30,6 +30,11 @@ $rust $reading tests/compare/main.rs --extern "reference=$out/libreference.rlib"
     -C "link-arg=$lib" -o "$out/compare"
 "$out/compare" tests/data "$out/difference.rpm"
 
+if [ -n "$reading" ]; then
+    echo "tests: the C calls on changed packages"
+    tests/fuzz.sh
+fi
+
 if [ -n "$reading" ] && command -v python3 > /dev/null; then
     echo "tests: packages by tools/make_package.py"
     tests/make_package.sh

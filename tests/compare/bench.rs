@@ -168,8 +168,13 @@ impl Bench {
         for number in [SIGILL, SIGABRT, SIGBUS, SIGSEGV, SIGALRM] {
             unsafe { signal(number, on_signal) };
         }
-        unsafe { alarm(300) };
+        bench.limit(300);
         bench
+    }
+
+    /// How long the library may take from now on, in seconds.
+    pub fn limit(&self, seconds: u32) {
+        unsafe { alarm(seconds) };
     }
 
     /// Starts a family of cases.
@@ -200,7 +205,7 @@ impl Bench {
     }
 
     /// Library and reference must agree; so must what is known by construction.
-    pub fn ask(&mut self, question: Question, known: Option<Answer>) {
+    pub fn ask(&mut self, question: Question, known: Option<Answer>) -> Answer {
         self.asks("ask", question.numbers());
         let package = self.bytes();
         let reference = question.reference(package);
@@ -210,6 +215,7 @@ impl Bench {
             self.fail(&format!("library {library}, reference {reference}{known}"));
         }
         self.agree(reference);
+        library
     }
 
     /// What is asked next, for the report.
@@ -227,14 +233,14 @@ impl Bench {
         fail(&self.current, difference)
     }
 
-    /// Asks for a whole entry and for one element.
-    pub fn ask_both(&mut self, question: Question, known: Option<Answer>) {
+    /// Asks for a whole entry and for one element; gives the answer on the element.
+    pub fn ask_both(&mut self, question: Question, known: Option<Answer>) -> Answer {
         let whole = Question {
             element: None,
             ..question
         };
         self.ask(whole, known);
-        self.ask(question, known);
+        self.ask(question, known)
     }
 }
 

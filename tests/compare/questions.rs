@@ -104,7 +104,7 @@ pub fn ask_record(
     bytes: &[u8],
     structure: u32,
     record: usize,
-) {
+) -> Answer {
     let number = |at: usize| u32::from_be_bytes(bytes[at..at + 4].try_into().unwrap());
     let (tag, ty, count) = (number(record), number(record + 4), number(record + 12));
     let elements = [0, count.wrapping_sub(1), count, random.number()];
@@ -115,5 +115,5 @@ pub fn ask_record(
         ty,
         element,
     };
-    bench.ask_both(question, None);
+    bench.ask_both(question, None)
 }

@@ -114,8 +114,8 @@ impl<'a> Desk<'a> {
         }
     }
 
-    /// Reads at editions 1 and 2; demand 3 must hold.
-    pub fn both(&mut self, room: usize, known: Option<&[Outcome; 2]>) {
+    /// Reads at editions 1 and 2, and gives both answers; demand 3 must hold.
+    pub fn both(&mut self, room: usize, known: Option<&[Outcome; 2]>) -> [Answer; 2] {
         let shift = self.readings;
         let one = self.read(1, room, known.map(|known| &known[0]));
         self.readings = shift;
@@ -128,6 +128,7 @@ impl<'a> Desk<'a> {
                 "library {one} at edition 1, {two} at edition 2: demand 3"
             ));
         }
+        [one.answer, two.answer]
     }
 
     /// A package and what it must give: read with room, and with any buffer.

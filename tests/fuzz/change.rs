@@ -1,0 +1,439 @@
+//! Changes inputs: single bytes, fields, entries and books. What a change breaks
+//! elsewhere is mostly repaired, so that the later checks are reached.
+
+use reference::book;
+use reference::catalogue::{Line, HEADER, SIGNATURE};
+
+use crate::entries::{any_data, any_text, data, extent, pack, position, put, put_line};
+use crate::entries::{set_data, set_number};
+use crate::input::{self, ASKED, FILL, ROOM};
+use crate::maker::{Package, Structure, S};
+use crate::questions::EXTREMES;
+use crate::random::Random;
+
+/// Tags of which all, or none, go together.
+const GROUPS: [&[u32]; 12] = [
+    &[1005, 1011],
+    &[1002, 1012],
+    &[1023, 1085],
+    &[1024, 1086],
+    &[1025, 1087],
+    &[1026, 1088],
+    &[1027],
+    &[1048, 1049, 1050],
+    &[1047, 1112, 1113],
+    &[1053, 1054, 1055],
+    &[1090, 1114, 1115],
+    &[1080, 1081, 1082],
+];
+/// Tags of one count for each file.
+const FILE_TAGS: [u32; 15] = [
+    1028, 1030, 1033, 1034, 1035, 1036, 1037, 1039, 1040, 1045, 1095, 1096, 1097, 1116, 1117,
+];
+const KINDS: [u8; 10] = [0x02, 0x86, 0x86, 0x14, 0x98, 0x98, 0x00, 0x80, 0x96, 0x7F];
+const OXIDES: [u16; 8] = [0, 1, 2, 27, 998, 999, 1000, 0xFFFF];
+#[rustfmt::skip]
+const MILLIGRAMS: [u32; 9] = [
+    0, 1, 1250, 65_536, 4_999_999, 5_000_000, 5_000_001, 1 << 31, u32::MAX,
+];
+#[rustfmt::skip]
+const EDITIONS: [u32; 12] = [
+    0, 1, 2, 3, 257, 258, 65_537, 65_538, 1 << 31, (1 << 31) + 1, (1 << 31) + 2, u32::MAX,
+];
+
+/// Changes an input in one to three ways; `most` is how long it may get.
+pub fn change(input: &mut Vec<u8>, random: &mut Random, most: usize) {
+    for _ in 0..random.pick(&[1, 1, 2, 3]) {
+        match input::parts(&input::package(input)) {
+            Some(mut package) if !random.one_in(8) => {
+                change_parts(&mut package, random);
+                repair(&mut package, random, most);
+                *input = input::of_package(package.bytes());
+            }
+            _ => change_bytes(input, random),
+        }
+    }
+    if random.one_in(2) {
+        ask_otherwise(input, random);
+    }
+    input.truncate(most);
+}
+
+/// Puts entries of another input into this one.
+pub fn cross(input: &mut Vec<u8>, other: &[u8], random: &mut Random, most: usize) {
+    let parts = |input: &[u8]| input::parts(&input::package(input));
+    let (Some(mut package), Some(other)) = (parts(input), parts(other)) else {
+        return change(input, random, most);
+    };
+    for _ in 0..1 + random.below(4) {
+        let (to, from) = match random.one_in(4) {
+            true => (&mut package.signature, &other.signature),
+            false => (&mut package.header, &other.header),
+        };
+        let record = random.pick(&from.records);
+        if let Some(extent) = extent(from, record) {
+            put(to, record[0], record[1], record[3], &from.store[extent]);
+        }
+    }
+    repair(&mut package, random, most);
+    *input = input::of_package(package.bytes());
+    input.truncate(most);
+}
+
+// ---- What is asked ----
+
+fn ask_otherwise(input: &mut [u8], random: &mut Random) {
+    if input.len() < S {
+        return;
+    }
+    let edition = random.pick(&EDITIONS).to_be_bytes();
+    let room = random.below(0x1_0000) as u16;
+    let fill = match random.below(16) {
+        0 => (0x1_0002 - random.below(4)).saturating_sub(input.len()),
+        1 => random.below(5000),
+        _ => 0,
+    };
+    match random.below(8) {
+        0 => input[ASKED..ROOM].copy_from_slice(&edition),
+        1 => input[FILL..FILL + 2].copy_from_slice(&(fill as u16).to_be_bytes()),
+        2..=5 => input[ROOM..FILL].copy_from_slice(&room.to_be_bytes()),
+        _ => input[FILL + 2..S].copy_from_slice(&random.next().to_be_bytes()),
+    }
+}
+
+// ---- Bytes and fields ----
+
+fn set_word(input: &mut [u8], at: usize, number: u32) {
+    if let Some(four) = input.get_mut(at..at + 4) {
+        four.copy_from_slice(&number.to_be_bytes());
+    }
+}
+
+fn word(input: &[u8], at: usize) -> u32 {
+    let four = input.get(at..at + 4).unwrap_or(&[0; 4]);
+    u32::from_be_bytes(four.try_into().unwrap())
+}
+
+/// A number near this one, or with the same low bits, or an extreme one.
+fn near(random: &mut Random, number: u32) -> u32 {
+    match random.below(5) {
+        0 => random.pick(&EXTREMES),
+        3 => number.wrapping_add(random.pick(&[1 << 8, 1 << 16, 1 << 24])),
+        1 => number.wrapping_sub(1 + random.below(4) as u32),
+        2 => number.wrapping_add(1 + random.below(4) as u32),
+        _ => number ^ 1 << random.below(32),
+    }
+}
+
+fn change_bytes(input: &mut Vec<u8>, random: &mut Random) {
+    if input.is_empty() {
+        *input = random.bytes(S);
+    }
+    let len = input.len();
+    let at = random.below(len);
+    let some = (1 + random.below(16)).min(len - at);
+    match random.below(10) {
+        0 => input[at] ^= 1 << random.below(8),
+        1 => input[at] = random.byte(),
+        2 => {
+            let at = at & !3;
+            let number = near(random, word(input, at));
+            set_word(input, at, number);
+        }
+        3 => {
+            let from = random.below(len - some + 1);
+            input.copy_within(from..from + some, at);
+        }
+        4 => drop(input.drain(at..at + some)),
+        5 => drop(input.splice(at..at, random.bytes(some))),
+        6 => input.truncate(at),
+        7 => {
+            let field = random.pick(&[0, 3, 4, 5, 6, 7, 10, 76, 77, 78, 79]);
+            if field < len {
+                input[field] = random.pick(&[0, 1, 2, 3, 4, 5, 6, 255]);
+            }
+        }
+        _ => change_head(input, random),
+    }
+}
+
+/// Changes one of a structure's first 16 bytes, or a field of its index.
+fn change_head(input: &mut [u8], random: &mut Random) {
+    let header =
+        S as u64 + 16 + 16 * u64::from(word(input, S + 8)) + u64::from(word(input, S + 12));
+    let header = header.next_multiple_of(8) as usize;
+    let start = random.pick(&[S, header, header]);
+    let nindex = word(input, start + 8).clamp(1, 512) as usize;
+    let field = match random.below(3) {
+        0 => start + 4 * random.below(2),
+        1 => start + 8 + 4 * random.below(2),
+        _ => start + 16 + 4 * random.below(4 * nindex),
+    };
+    let number = near(random, word(input, field));
+    set_word(input, field, number);
+}
+
+// ---- Entries ----
+
+fn either<'a>(
+    package: &'a mut Package,
+    random: &mut Random,
+) -> (&'a mut Structure, &'static [Line]) {
+    match random.one_in(4) {
+        true => (&mut package.signature, &SIGNATURE),
+        false => (&mut package.header, &HEADER),
+    }
+}
+
+fn change_parts(package: &mut Package, random: &mut Random) {
+    let files = position(&package.header, 1028).map_or(1, |at| package.header.records[at][3]);
+    let files = files.clamp(1, 8);
+    match random.below(18) {
+        0..=3 => change_book(&mut package.header, random),
+        4 | 5 => change_group(package, random),
+        6 => change_files(&mut package.header, random),
+        7 => change_text(&mut package.header, random),
+        8 => change_rest(package, random),
+        n => {
+            let (structure, lines) = either(package, random);
+            match n {
+                9 | 10 => change_field(structure, lines, random),
+                11 | 12 => change_data(structure, random),
+                13 | 14 => {
+                    let any = 1 + random.below(3) as u32;
+                    let count = random.pick(&[any, files]);
+                    let line = random_line(lines, random);
+                    put_line(structure, random, &line, count);
+                }
+                _ => change_index(structure, random),
+            }
+        }
+    }
+}
+
+fn random_line(lines: &[Line], random: &mut Random) -> Line {
+    lines[random.below(lines.len())]
+}
+
+/// Another number in one field of a record.
+fn change_field(structure: &mut Structure, lines: &[Line], random: &mut Random) {
+    let other = random.pick(&structure.records);
+    let store = structure.store.len() as u32;
+    let at = random.below(structure.records.len());
+    let record = &mut structure.records[at];
+    let field = random.below(4);
+    record[field] = match (field, random.below(3)) {
+        (0, 0) => random_line(lines, random).tag,
+        (1, 0 | 1) => random.below(12) as u32,
+        (2, 0) => store.wrapping_sub(random.below(6) as u32),
+        (_, 1) => other[field],
+        _ => near(random, record[field]),
+    };
+}
+
+/// Other data for a record, in its place or a new one.
+fn change_data(structure: &mut Structure, random: &mut Random) {
+    let at = random.below(structure.records.len());
+    let record = structure.records[at];
+    let Some(extent) = extent(structure, record) else {
+        return;
+    };
+    let place = extent.start + random.below(extent.len());
+    match random.below(4) {
+        0 => structure.store[place] = random.pick(&[0, 1, b'/', 255]),
+        1 => structure.store[place] ^= 1 << random.below(8),
+        2 if matches!(record[1], 6 | 8 | 9) => {
+            let texts: Vec<u8> = (0..record[3]).flat_map(|_| any_text(random)).collect();
+            set_data(structure, at, record[1], record[3], &texts);
+        }
+        _ => {
+            let count = match record[1] {
+                6 | 9 => 1,
+                _ => random
+                    .pick(&[record[3] - 1, record[3], record[3] + 1])
+                    .clamp(1, 64),
+            };
+            let data = any_data(random, record[0], record[1], count);
+            set_data(structure, at, record[1], count, &data);
+        }
+    }
+}
+
+/// A record less, one more, or two that change places.
+fn change_index(structure: &mut Structure, random: &mut Random) {
+    let len = structure.records.len();
+    let (one, two) = (random.below(len), random.below(len));
+    match random.below(4) {
+        0 => structure.records.swap(one, two),
+        1 => {
+            let mut record = structure.records[one];
+            let any = random.number();
+            record[0] = random.pick(&[record[0], record[0].wrapping_add(1), 20_003, any]);
+            structure.records.insert(two, record);
+        }
+        _ if len > 1 => drop(structure.records.remove(one)),
+        _ => {}
+    }
+}
+
+/// A group as it should be, or without one of its tags, or with another count.
+fn change_group(package: &mut Package, random: &mut Random) {
+    let group = random.below(GROUPS.len());
+    let (structure, lines) = match group {
+        0 | 1 => (&mut package.signature, &SIGNATURE[..]),
+        _ => (&mut package.header, &HEADER[..]),
+    };
+    let count = 1 + random.below(3) as u32;
+    for &tag in GROUPS[group] {
+        let line = lines.iter().find(|line| line.tag == tag);
+        match random.below(8) {
+            0 => structure.records.retain(|record| record[0] != tag),
+            1 => put_line(structure, random, line.expect("a line"), count % 3 + 1),
+            2 => {}
+            _ => put_line(structure, random, line.expect("a line"), count),
+        }
+    }
+    if structure.records.is_empty() {
+        put(structure, 1000, 4, 1, &[0; 4]);
+    }
+}
+
+/// Texts for a tag that check 18 looks at.
+fn change_text(header: &mut Structure, random: &mut Random) {
+    let tag = random.pick(&[1021, 1085, 1086, 1087, 1088, 1118, 1118]);
+    let (ty, count) = match tag {
+        1118 => (8, 1 + random.below(3) as u32),
+        _ => (6, 1),
+    };
+    let texts: Vec<u8> = (0..count).flat_map(|_| any_text(random)).collect();
+    put(header, tag, ty, count, &texts);
+}
+
+/// Another number of files, with names in one form or the other.
+fn change_files(header: &mut Structure, random: &mut Random) {
+    let files = 1 + random.below(4) as u32;
+    let old = random.one_in(3);
+    let line = |tag: u32| HEADER.iter().find(|line| line.tag == tag).expect("a line");
+    for tag in FILE_TAGS {
+        if !random.one_in(64) && (tag != 1045 || random.one_in(2)) {
+            put_line(header, random, line(tag), files);
+        }
+    }
+    if old {
+        put_line(header, random, line(1027), files);
+        header
+            .records
+            .retain(|record| !(1116..=1118).contains(&record[0]));
+    } else {
+        let folders = 1 + random.below(2) as u32;
+        put_line(header, random, line(1118), folders);
+        header.records.retain(|record| record[0] != 1027);
+    }
+}
+
+/// What stands outside the entries.
+fn change_rest(package: &mut Package, random: &mut Random) {
+    let count = random.below(24);
+    match random.below(6) {
+        0 => package.gap = random.byte(),
+        1 => package.payload = random.bytes(count),
+        2 => package.signature.store.extend(random.bytes(count)),
+        3 => package.header.store.extend(random.bytes(count)),
+        4 => {
+            let store = &mut package.header.store;
+            store.resize(store.len() + random.below(60_000), 0);
+        }
+        _ => {
+            let store = &mut package.header.store;
+            store.truncate(store.len().saturating_sub(1 + count / 4));
+        }
+    }
+}
+
+// ---- The book ----
+
+/// A record of a kind: a body with a dose in it for weighed ones.
+fn book_record(random: &mut Random, kind: u8) -> Vec<u8> {
+    let mut record = vec![kind];
+    record.extend(random.bytes(usize::from(kind % 16)));
+    if kind >= 128 && record.len() >= 7 {
+        let (oxide, milligrams) = match random.one_in(4) {
+            true => (random.pick(&OXIDES), random.pick(&MILLIGRAMS)),
+            false => (
+                1 + random.below(999) as u16,
+                1 + random.below(5_000_000) as u32,
+            ),
+        };
+        record[1..3].copy_from_slice(&oxide.to_be_bytes());
+        record[3..7].copy_from_slice(&milligrams.to_be_bytes());
+    }
+    record
+}
+
+fn change_book(header: &mut Structure, random: &mut Random) {
+    let Some(old) = data(header, 20001) else {
+        return put(header, 20001, 7, 3, &[2, 0, 7]);
+    };
+    let mut records: Vec<Vec<u8>> = Vec::new();
+    let mut rest = old;
+    while let Some(kind) = rest.first() {
+        let (record, behind) = rest.split_at(rest.len().min(1 + usize::from(kind % 16)));
+        records.push(record.to_vec());
+        rest = behind;
+    }
+    let at = random.below(records.len());
+    let kind = match random.one_in(4) {
+        true => random.byte(),
+        false => random.pick(&KINDS),
+    };
+    match random.below(8) {
+        0 | 1 => records.insert(at, book_record(random, kind)),
+        2 => records.push(book_record(random, kind)),
+        3 => records[at] = book_record(random, kind),
+        4 => records[at][0] = kind,
+        5 if records.len() > 1 => drop(records.remove(at)),
+        6 => {
+            let byte = random.below(records[at].len());
+            records[at][byte] = random.pick(&[0, 1, 255]);
+        }
+        _ => {
+            let last = records.last_mut().expect("no book is empty");
+            last.pop();
+        }
+    }
+    let mut book = records.concat();
+    if book.is_empty() {
+        book.push(kind);
+    }
+    match random.below(128) {
+        // Around the limit of 4,096 bytes.
+        0 => book.resize(4094 + random.below(5), 0),
+        // Many doses, of the largest sum.
+        1 => book = [0x86, 0, 1, 0, 0x4C, 0x4B, 0x40].repeat(random.pick(&[200, 430, 585])),
+        _ => {}
+    }
+    put(header, 20001, 7, book.len() as u32, &book);
+}
+
+// ---- Repairs ----
+
+/// Makes 1000 the length from H on and 20002 the sum of the doses, in most cases.
+fn repair(package: &mut Package, random: &mut Random, most: usize) {
+    if package.bytes().len() > most || random.one_in(64) {
+        pack(&mut package.signature);
+        pack(&mut package.header);
+    }
+    let book = data(&package.header, 20001).unwrap_or(&[]);
+    if let Ok(doses) = book::doses(2, book) {
+        let sum = book::sum(&doses) as u32;
+        let weight = match random.below(16) {
+            0 => near(random, sum),
+            _ => sum,
+        };
+        set_number(&mut package.header, 20002, weight);
+    }
+    if !random.one_in(32) {
+        let size = package.header.size() + package.payload.len();
+        set_number(&mut package.signature, 1000, size as u32);
+    }
+}

@@ -1,0 +1,33 @@
+//! Fuzzing of the C calls: what an input is, what is asked of it, and how inputs
+//! are changed. plain.rs and libfuzzer.rs are the two drivers.
+
+pub mod change;
+pub mod entries;
+pub mod input;
+pub mod target;
+
+// Shared with the comparison; not all of it is used here.
+#[allow(dead_code)]
+#[path = "../compare/bench.rs"]
+mod bench;
+#[path = "../compare/fence.rs"]
+mod fence;
+#[allow(dead_code)]
+#[path = "../compare/maker.rs"]
+mod maker;
+#[allow(dead_code)]
+#[path = "../compare/questions.rs"]
+mod questions;
+#[allow(dead_code)]
+#[path = "../compare/random.rs"]
+pub mod random;
+#[allow(dead_code)]
+#[path = "../compare/shapes.rs"]
+mod shapes;
+
+#[path = "../compare/reading"]
+mod reading {
+    pub mod demand3;
+    #[allow(dead_code)]
+    pub mod desk;
+}

@@ -1,0 +1,191 @@
+#!/usr/bin/env python3
+"""Writes the seeds of fuzzing, tests/fuzz/corpus and its list corpus.txt. Run from the root:
+
+    tests/fuzz/make_corpus.py [--check]
+
+The list has each package's answers at editions 1 and 2 with room for any doses, known from
+how the package is made: number@place. With --check nothing is written, and files that
+differ are named. Bytes 80 to 95 say what is asked (tests/fuzz/input.rs).
+"""
+import pathlib
+import struct
+import sys
+
+sys.dont_write_bytecode = True
+sys.path.insert(0, str(pathlib.Path(__file__).resolve().parents[2] / 'tools'))
+from make_samples import accepted as right, put, word  # noqa: E402
+from rpmfile import BIN, CHAR, I18N, INT16, INT32, INT8, STRING, STRINGS  # noqa: E402
+
+FOLDER = pathlib.Path('tests/fuzz/corpus')
+LIST = pathlib.Path('tests/fuzz/corpus.txt')
+HEAD = '# Package, answer at edition 1, at edition 2: number@place. Written by make_corpus.py.\n'
+
+# Records of a book.
+PAGE = bytes.fromhex('02 0007')
+DOSE = bytes.fromhex('86 001B 000004E2')
+DATE = bytes.fromhex('14 65E0D2A0')
+TOLERATED = bytes.fromhex('98 0001 00000001 0005')
+S, H = 96, 168
+
+
+def ask(bits, edition=3, room=0x8010, fill=0, tag=20001, ty=BIN, structure=1, element=0):
+    """The package with what is asked of it."""
+    return put(80, struct.pack('>IHHIbbh', edition, room, fill, tag, ty, structure, element), bits)
+
+
+def short(bits, **asked):
+    """The package with its last zero bytes left out; they are put behind the input."""
+    kept = len(bits.rstrip(b'\0')) + 8
+    return ask(bits[:kept], fill=len(bits) - kept, **asked)
+
+
+def field(bits, structure, tag, number, value):
+    """The package with one number of a tag's index record changed."""
+    start = {S: S, H: header_start(bits)}[structure]
+    nindex = struct.unpack_from('>I', bits, start + 8)[0]
+    for at in range(start + 16, start + 16 + 16 * nindex, 16):
+        if struct.unpack_from('>I', bits, at)[0] == tag:
+            return word(at + 4 * number, value, bits), at
+    raise KeyError(tag)
+
+
+def header_start(bits):
+    nindex, hsize = struct.unpack_from('>II', bits, S + 8)
+    end = S + 16 + 16 * nindex + hsize
+    return end + -end % 8
+
+
+def at_record(structure, tag, number, value, check):
+    """Refused at that record by both editions."""
+    bits, at = field(RIGHT, structure, tag, number, value)
+    return bits, f'{check}@{at}', f'{check}@{at}'
+
+
+def both(bits, answer):
+    return bits, answer, answer
+
+
+def book(text, answer):
+    return both(right(bytes.fromhex(text)), answer)
+
+
+def wrong_entry(answer, tag, ty, value):
+    return both(right(DOSE, header={tag: (ty, value)}), answer)
+
+
+def wrong_header(answer, entries, drop=()):
+    return both(right(DOSE, header=entries, drop=drop), answer)
+
+
+RIGHT = right(DOSE)
+TAG, TYPE, OFFSET, COUNT = range(4)
+assert header_start(RIGHT) == H
+
+FILES = {
+    1028: (INT32, [1, 2, 3]), 1030: (INT16, [0o100644] * 3), 1033: (INT16, [0] * 3), 1034: (INT32, [0] * 3),
+    1035: (STRINGS, [b''] * 3), 1036: (STRINGS, [b''] * 3), 1037: (INT32, [0] * 3),
+    1039: (STRINGS, [b'root'] * 3), 1040: (STRINGS, [b'root'] * 3), 1045: (INT32, [0] * 3),
+    1095: (INT32, [1] * 3), 1096: (INT32, [1, 2, 3]), 1097: (STRINGS, [b''] * 3),
+    1116: (INT32, [0, 1, 0]), 1117: (STRINGS, [b'a', b'b', b'c']), 1118: (STRINGS, [b'/', b'/srv/']),
+}
+OPTIONAL = {
+    1023: (STRING, b'true'), 1085: (STRING, b'/bin/sh'), 1026: (STRING, b'true'), 1088: (STRING, b'/bin/sh'),
+    1053: (INT32, [8, 8]), 1054: (STRINGS, [b'a', b'b']), 1055: (STRINGS, [b'1', b'2']),
+    1090: (STRINGS, [b'old']), 1114: (INT32, [0]), 1115: (STRINGS, [b'']),
+    1080: (INT32, [5]), 1081: (STRINGS, [b'we']), 1082: (STRINGS, [b'first']),
+}
+OTHER_TAGS = {
+    30001: (CHAR, b'abc'), 30002: (INT8, [1, 2]), 30003: (INT16, [1, 2, 3]), 30004: (INT32, [4, 5]),
+    30005: (STRING, b'one'), 30006: (I18N, b'two'), 30007: (STRINGS, [b'', b'three']),
+}
+OLD_NAMES = {tag: entry for tag, entry in FILES.items() if tag < 1116} | {1027: (STRINGS, [b'/a', b'/srv/b', b'/c'])}
+FULL = 1 << 16
+
+SEEDS = {
+    'accepted_both_dose': both(RIGHT, '0@1'),
+    'accepted_both_page_dose': both(right(PAGE + DOSE), '0@1'),
+    'accepted_both_no_dose': both(right(b'\0'), '0@0'),
+    'accepted_both_date': both(right(DATE + DOSE), '0@1'),
+    'accepted_both_unknown_remark': both(right(bytes.fromhex('31 FF') + DOSE), '0@1'),
+    'accepted_both_five_doses': both(right(DOSE * 4 + bytes.fromhex('86 03E7 004C4B40')), '0@5'),
+    'accepted_both_three_files': both(right(DOSE, header=FILES), '0@1'),
+    'accepted_both_old_names': both(right(DOSE, header=OLD_NAMES, drop=[1116, 1117, 1118]), '0@1'),
+    'accepted_both_optional_tags': both(right(DOSE, header=OPTIONAL), '0@1'),
+    'accepted_both_other_tags': both(right(DOSE, header=OTHER_TAGS, payload=b'payload'), '0@1'),
+    'accepted_both_signed': both(right(DOSE, signature={
+        62: (BIN, bytes(16)), 1002: (BIN, bytes(5)), 1005: (BIN, bytes(3)), 1007: (INT32, [0]),
+        1010: (STRING, b'a'), 1011: (BIN, b'1'), 1012: (BIN, b'2')}), '0@1'),
+    'accepted_both_far_entry': both(
+        short(right(DOSE, header={30001: (BIN, bytes(60000)), 30002: (INT8, [0])}), tag=30002, ty=INT8), '0@1'),
+    'accepted_both_long_name': both(put(10, b'x' * 65 + b'\0', RIGHT), '0@1'),
+    'accepted_edition_2_tolerance': (right(TOLERATED), '20@0', '0@1'),
+    'accepted_edition_2_all_kinds': (right(PAGE + DOSE + DATE + TOLERATED), '20@15', '0@2'),
+    'accepted_edition_1_no_weight': (right(DOSE, drop=[20002]), '0@1', '14@20002'),
+    'check02_limit': both(ask(right(DOSE, signature={1000: (INT32, [FULL - H])}), fill=FULL - len(RIGHT)), '0@1'),
+    'check02_one_more': both(ask(RIGHT, fill=FULL + 1 - len(RIGHT)), '2@0'),
+    'check03_95_bytes': both(RIGHT[:95], '3@95'),
+    'check04_major': both(put(4, b'\x04', RIGHT), '4@4'),
+    'check04_name': both(put(10, b'x' * 66, RIGHT), '4@10'),
+    'check05_signature': both(RIGHT[:S + 15], f'5@{S}'),
+    'check05_header': both(RIGHT[:H + 15], f'5@{H}'),
+    'check06_magic': both(put(H + 3, b'\x02', RIGHT), f'6@{H}'),
+    'check06_reserved': both(put(S + 7, b'\x01', RIGHT), f'6@{S + 4}'),
+    'check07_none': both(word(H + 8, 0, RIGHT), f'7@{H + 8}'),
+    'check07_513': both(word(H + 8, 513, RIGHT), f'7@{H + 8}'),
+    'check08_one_byte': both(RIGHT[:-1], f'8@{H + 12}'),
+    'check09_type_5': at_record(H, 1022, TYPE, 5, 9),
+    'check10_none': at_record(H, 1028, COUNT, 0, 10),
+    'check10_two_strings': at_record(H, 1021, COUNT, 2, 10),
+    'check11_int32': at_record(S, 1000, OFFSET, 2, 11),
+    'check11_int16': at_record(H, 1030, OFFSET, 1, 11),
+    'check12_product_wraps': at_record(H, 1028, COUNT, 0x40000001, 12),
+    'check12_strings': at_record(H, 1117, COUNT, 1000, 12),
+    'check13_tag_twice': at_record(H, 1022, TAG, 1021, 13),
+    'check14_signature': both(field(RIGHT, S, 1004, TAG, 1003)[0], '14@1004'),
+    'check14_header': wrong_header('14@1126', {}, drop=[1126]),
+    'check15_signature': both(right(DOSE, signature={1004: (BIN, bytes(17))}), '15@1004'),
+    'check15_header': wrong_entry('15@1004', 1004, STRING, b'A book'),
+    'check15_weight': (right(DOSE, header={20002: (INT32, [1250, 1250])}), '0@1', '15@20002'),
+    'check16_whole_length': both(right(DOSE, signature={1000: (INT32, [len(RIGHT)])}), '16@1000'),
+    'check17_signature': both(right(DOSE, signature={1012: (BIN, b'1')}), '17@1002'),
+    'check17_script': wrong_entry('17@1086', 1024, STRING, b'true'),
+    'check17_file_count': wrong_entry('17@1037', 1037, INT32, [0, 0]),
+    'check17_both_names': wrong_entry('17@1027', 1027, STRINGS, [b'/a']),
+    'check17_leader': wrong_header('17@1081', {1080: (INT32, [0]), 1082: (STRINGS, [b''])}),
+    'check18_system': wrong_entry('18@1021', 1021, STRING, b'linuxx'),
+    'check18_program': wrong_entry('18@1087', 1087, STRING, b'/bin/bash'),
+    'check18_index': wrong_entry('18@1116', 1116, INT32, [1]),
+    'check18_folder': wrong_entry('18@1118', 1118, STRINGS, [b'/usr/share']),
+    'check19_4097_bytes': both(short(right(DOSE + bytes(4090), batch=0)), '19@20001'),
+    'check20_kind_96': book('96', '20@0'),
+    'check21_page': book('86 001B 000004E2 02 00', '21@7'),
+    'check22_oxide_1000': book('02 0007 86 03E8 000004E2', '22@3'),
+    'check22_milligrams': book('86 001B 004C4B41', '22@0'),
+    'check23_sum': (right(DOSE, batch=1249), '0@1', '23@20002'),
+    'check24_no_room': both(ask(right(DOSE + DOSE), room=15), '0@2'),
+    'check25_other_type': both(ask(RIGHT, tag=1028, ty=INT16), '0@1'),
+    'check26_element': both(ask(RIGHT, tag=1028, ty=INT32, element=1), '0@1'),
+}
+
+
+def main():
+    wanted = {FOLDER / name: ask(bits) if bits[80:96] == bytes(16) else bits
+              for name, (bits, _, _) in sorted(SEEDS.items())}
+    lines = (f'{name:32}{one:10}{two}\n' for name, (_, one, two) in sorted(SEEDS.items()))
+    wanted[LIST] = (HEAD + ''.join(lines)).encode()
+    if sys.argv[1:] == ['--check']:
+        wrong = [str(path) for path, bits in wanted.items() if not path.exists() or path.read_bytes() != bits]
+        if wrong:
+            sys.exit('make_corpus: not as made: ' + ', '.join(wrong))
+        return
+    FOLDER.mkdir(exist_ok=True)
+    for path in FOLDER.iterdir():
+        path.unlink()
+    for path, bits in wanted.items():
+        path.write_bytes(bits)
+    total = sum(len(bits) for bits in wanted.values())
+    print(len(SEEDS), 'packages,', total, 'bytes in', FOLDER)
+
+
+if __name__ == '__main__':
+    main()
