@@ -8,12 +8,12 @@ use native.Mathlib.Omega.{arith}
 use Rattle.book.specs.declared.dose.Dose.{Dose}
 use Rattle.book.specs.Doses.{doses, numbersOf}
 use Rattle.reading.specs.Reading.{bookOf, readingCheck}
-use Rattle.reading.specs.Buffers.{bufferAfter}
+use Rattle.reading.specs.Buffers.{leftIn}
 use Rattle.demands.specs.Demands.{RefusedKeeps, AcceptedWrites}
 use Rattle.reading.proofs.AnswerLaws.{done, refused, pass-room}
 
 pub refused-keeps : RefusedKeeps
-unfolding bufferAfter
+unfolding leftIn
 refused-keeps edition s before number place h = rw (refused (readingCheck edition s (length before)) (length (doses (bookOf s))) h)
 
 numbers-length : (l : List Dose) → length (numbersOf l) ≡ 2 * length l
@@ -27,7 +27,7 @@ front before l h =
     sets-eq l before 0 (omega arith) ∙ rw e
 
 pub accepted-writes : AcceptedWrites
-unfolding bufferAfter
+unfolding leftIn
 accepted-writes edition s before count h =
     let k = done (readingCheck edition s (length before)) (length (doses (bookOf s))) h in
     let r = pass-room edition s (length before) (k .0) in

@@ -19,7 +19,7 @@ use Rattle.book.specs.Kinds.{isKnown}
 use Rattle.book.specs.Doses.{doses}
 use Rattle.reading.specs.Editions.{Extends, editionOf, batchTag, oldOrBatch}
 use Rattle.reading.specs.Reading.{editionCheck, bookOf, checksAt, readingCheck, answerAs, readAnswer}
-use Rattle.reading.specs.Buffers.{bufferAfter}
+use Rattle.reading.specs.Buffers.{bufferAfter, leftIn}
 use Rattle.demands.specs.Demands.{Adds, ByAdded, VerdictsAgree, ByBatch, Demand3}
 use Rattle.reading.proofs.AnswerLaws.{done, refused}
 use Rattle.demands.proofs.EditionTheorems.{extending-agrees}
@@ -92,7 +92,7 @@ module _ (s before : List ℕ) where
   first v h = rw (at-1 s room ∙ h)
 
   both-kept : checksAt (editionOf 1) s room ≡ Pass → checksAt (editionOf 2) s room ≡ Pass → bufferAfter 1 s before ≡ bufferAfter 2 s before
-  unfolding bufferAfter
+  unfolding leftIn
   both-kept h k = rw (at-1 s room ∙ h, at-2 s room ∙ k)
 
   by-batch : ByAdded (editionOf 1) (editionOf 2) (checksAt (editionOf 2) s room) → ByBatch (readAnswer 2 s room)

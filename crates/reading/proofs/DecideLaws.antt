@@ -14,7 +14,7 @@ use Rattle.package.specs.declared.sound.Opened.{Opened}
 use Rattle.package.specs.declared.sound.Opened.the-variants as opened′
 use Rattle.package.specs.Package.{signatureAt, headerAt, soundCheck, opened}
 use Rattle.package.proofs.OpenLaws.{opened-sound, opened-unsound, sound-size}
-use Rattle.book.specs.Doses.{doses, withDoses, withDoseBytes}
+use Rattle.book.specs.Doses.{doses}
 use Rattle.reading.specs.declared.opened.Weighing.{Weighing}
 use Rattle.reading.specs.declared.opened.Weighing.the-variants as weighing
 use Rattle.reading.specs.declared.Decided.{Decided}
@@ -22,7 +22,7 @@ use Rattle.reading.specs.declared.Decided.the-variants.{Accepted, Refuse
 use Rattle.reading.specs.Editions.{editionOf}
 use Rattle.reading.specs.Reading.{editionCheck, bookIn, bookOf, openedCheck, checksAt, readingCheck, readAnswer}
 use Rattle.reading.specs.Weighings.{weighingAs}
-use Rattle.reading.specs.Buffers.{afterAs, bufferAfter, Read, numbersIn, bytesAfter, ReadBytes, decidedAs, decided}
+use Rattle.reading.specs.Buffers.{afterAs, leftIn, ReadInto, decidedAs, decided}
 
 weighed : (v : Verdict) (n : ℕ) {count : ℕ} → weighingAs v n ≡ weighing.Doses count → (v ≡ Pass) × (n ≡ count)
 weighed Pass n h = (refl, cc)
@@ -109,40 +109,23 @@ module _ (edition : ℕ) (s : List ℕ) (room : ℕ) {d : Decided} (p : d ≡ de
       let j = accepted-verdict h in
       rw (j .0) (k ∙ ap (λ (x : List ℕ). with′ x before) (e ∙ ap (bookIn s) (sym (j .2))))
 
--- the whole promise of a reading into numbers
-module _ (edition : ℕ) (s before : List ℕ) {d : Decided} (p : d ≡ decided edition s (length before)) where
-  pub read-refused : {number place : ℕ} → d ≡ Refused number place → Read edition s before (answer.Refused number place) before
-  unfolding bufferAfter
+-- the whole promise of a reading
+module _ (room : List ℕ → ℕ) (put : List ℕ → List ℕ → List ℕ) (edition : ℕ) (s before : List ℕ) {d : Decided}
+    (p : d ≡ decided edition s (room before)) where
+  pub read-refused : {number place : ℕ} → d ≡ Refused number place
+      → ReadInto room put edition s before (answer.Refused number place) before
+  unfolding leftIn
   read-refused h =
       record {
-        answered = refused-answer edition s (length before) p h;
-        buffer = refused-buffer edition s (length before) p before (withDoses (bookOf s) before) h;
+        answered = refused-answer edition s (room before) p h;
+        buffer = refused-buffer edition s (room before) p before (put (bookOf s) before) h;
       }
 
   pub read-accepted : {count : ℕ} {header : Section} {b after : List ℕ} → d ≡ Accepted count header → b ≡ bookIn s header
-      → after ≡ withDoses b before → Read edition s before (answer.Done count) after
-  unfolding bufferAfter
+      → after ≡ put b before → ReadInto room put edition s before (answer.Done count) after
+  unfolding leftIn
   read-accepted h e k =
       record {
-        answered = accepted-answer edition s (length before) p h;
-        buffer = accepted-buffer edition s (length before) p before withDoses h e k;
-      }
-
--- and into bytes
-module _ (edition : ℕ) (s before : List ℕ) {d : Decided} (p : d ≡ decided edition s (numbersIn before)) where
-  pub bytes-refused : {number place : ℕ} → d ≡ Refused number place → ReadBytes edition s before (answer.Refused number place) before
-  unfolding bytesAfter
-  bytes-refused h =
-      record {
-        answered = refused-answer edition s (numbersIn before) p h;
-        buffer = refused-buffer edition s (numbersIn before) p before (withDoseBytes (bookOf s) before) h;
-      }
-
-  pub bytes-accepted : {count : ℕ} {header : Section} {b after : List ℕ} → d ≡ Accepted count header → b ≡ bookIn s header
-      → after ≡ withDoseBytes b before → ReadBytes edition s before (answer.Done count) after
-  unfolding bytesAfter
-  bytes-accepted h e k =
-      record {
-        answered = accepted-answer edition s (numbersIn before) p h;
-        buffer = accepted-buffer edition s (numbersIn before) p before withDoseBytes h e k;
+        answered = accepted-answer edition s (room before) p h;
+        buffer = accepted-buffer edition s (room before) p before put h e k;
       }

@@ -18,24 +18,32 @@ abbrev pub afterAs : Verdict → List ℕ → List ℕ → List ℕ
 afterAs Pass before doses = doses
 afterAs (Fail number place) before doses = before
 
-unfoldable pub bufferAfter : ℕ → List ℕ → List ℕ → List ℕ
-bufferAfter edition s before = afterAs (readingCheck edition s (length before)) before (withDoses (bookOf s) before)
+-- a buffer that has room for so many numbers, where a book's doses are put so
+unfoldable pub leftIn : (List ℕ → ℕ) → (List ℕ → List ℕ → List ℕ) → ℕ → List ℕ → List ℕ → List ℕ
+leftIn room put edition s before = afterAs (readingCheck edition s (room before)) before (put (bookOf s) before)
 
--- the reading into a buffer of numbers
-pub record Read (edition : ℕ) (s before : List ℕ) (answer : Answer) (after : List ℕ) : Type 0 where
-  pub answered : answer ≡ readAnswer edition s (length before)
-  pub buffer : after ≡ bufferAfter edition s before
+-- the reading into such a buffer
+pub record ReadInto (room : List ℕ → ℕ) (put : List ℕ → List ℕ → List ℕ) (edition : ℕ) (s before : List ℕ) (answer : Answer)
+    (after : List ℕ) : Type 0 where
+  pub answered : answer ≡ readAnswer edition s (room before)
+  pub buffer : after ≡ leftIn room put edition s before
 
--- four bytes to a number, a remainder unused
+-- a buffer of numbers
+abbrev pub bufferAfter : ℕ → List ℕ → List ℕ → List ℕ
+bufferAfter = leftIn length withDoses
+
+abbrev pub Read : ℕ → List ℕ → List ℕ → Answer → List ℕ → Type 0
+Read = ReadInto length withDoses
+
+-- a buffer of bytes, four to a number, a remainder unused
 abbrev pub numbersIn : List ℕ → ℕ
 numbersIn bytes = length bytes / 4
 
-unfoldable pub bytesAfter : ℕ → List ℕ → List ℕ → List ℕ
-bytesAfter edition s before = afterAs (readingCheck edition s (numbersIn before)) before (withDoseBytes (bookOf s) before)
+abbrev pub bytesAfter : ℕ → List ℕ → List ℕ → List ℕ
+bytesAfter = leftIn numbersIn withDoseBytes
 
-pub record ReadBytes (edition : ℕ) (s before : List ℕ) (answer : Answer) (after : List ℕ) : Type 0 where
-  pub answered : answer ≡ readAnswer edition s (numbersIn before)
-  pub buffer : after ≡ bytesAfter edition s before
+abbrev pub ReadBytes : ℕ → List ℕ → List ℕ → Answer → List ℕ → Type 0
+ReadBytes = ReadInto numbersIn withDoseBytes
 
 -- what is decided before anything is written: the dose count and the header, or the refusal
 abbrev pub decidedAs : Verdict → ℕ → Section → Decided
