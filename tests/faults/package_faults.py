@@ -1,6 +1,6 @@
 """Faults in lib.rs: size, lead, structures (checks 2 to 13) and look-ups."""
 
-# Check (0: another thing), what is wrong, the right text (found once), the wrong text.
+# Check ("package": no check's), what is wrong, the right text (found once), the wrong text.
 FAULTS = [
     (2, "limit one too low", "package.len() <= MAX_PACKAGE", "package.len() < MAX_PACKAGE"),
     (2, "limit one too high", "MAX_PACKAGE: usize = 65_536", "MAX_PACKAGE: usize = 65_537"),
@@ -98,38 +98,38 @@ FAULTS = [
     (26, "numbers of 16 bits",
      "check(26, element < record.count, 0)",
      "check(26, (element as u16) < record.count as u16, 0)"),
-    (0, "whole store shown",
+    ("package", "whole store shown",
      "let start = offset + size * skipped;",
      "let start = offset * skipped.min(1) + size * skipped;"),
-    (0, "elements of one byte", "offset + size * skipped", "offset + skipped"),
-    (0, "next string shown",
+    ("package", "elements of one byte", "offset + size * skipped", "offset + skipped"),
+    ("package", "next string shown",
      "strings_end(store, offset, skipped)?",
      "strings_end(store, offset, skipped + usize::from(count == 1 && skipped > 1))?"),
-    (0, "place in the store", "self.store_place + part.start..", "part.start.."),
-    (0, "places of 15 bits",
+    ("package", "place in the store", "self.store_place + part.start..", "part.start.."),
+    ("package", "places of 15 bits",
      "self.store_place + part.start..", "(self.store_place + part.start) % 32_768.."),
-    (0, "only 1 is the header", "if number == 0 {", "if number != 1 {"),
-    (0, "H not rounded up", "signature.end().next_multiple_of(8)", "signature.end()"),
-    (0, "H a multiple of 4", "next_multiple_of(8)", "next_multiple_of(4)"),
-    (0, "always some padding",
+    ("package", "only 1 is the header", "if number == 0 {", "if number != 1 {"),
+    ("package", "H not rounded up", "signature.end().next_multiple_of(8)", "signature.end()"),
+    ("package", "H a multiple of 4", "next_multiple_of(8)", "next_multiple_of(4)"),
+    ("package", "always some padding",
      "signature.end().next_multiple_of(8)", "(signature.end() + 1).next_multiple_of(8)"),
-    (0, "signature stands alone",
+    ("package", "signature stands alone",
      "let structure = sound(package)?.structure(structure);\n    match",
      "let opened = if structure == 0 { Structure::read(package, 96)? } else { sound(package)?.header };\n"
      "    let structure = opened;\n"
      "    match"),
-    (0, "12 before 11",
+    ("package", "12 before 11",
      "check(11, record.is_aligned(), place)?;\n"
      "            check(12, record.data(structure.store).is_some(), place)?;",
      "check(12, record.data(structure.store).is_some(), place)?;\n"
      "            check(11, record.is_aligned(), place)?;"),
-    (0, "refuses everything",
+    ("package", "refuses everything",
      "check(2, package.len() <= MAX_PACKAGE, 0)", "check(2, false, 0)"),
-    (0, "reads one byte more",
+    ("package", "reads one byte more",
      "    check_lead(",
      "    std::hint::black_box(unsafe { std::ptr::read_volatile(package.as_ptr().add(package.len())) });\n"
      "    check_lead("),
-    (0, "writes into the package",
+    ("package", "writes into the package",
      "    check_lead(",
      "    unsafe { std::ptr::write_volatile(package.as_ptr().cast_mut(), 0xED) };\n"
      "    check_lead("),
