@@ -156,15 +156,16 @@ fn damages(bench: &mut Bench, random: &mut Random) {
     }
 }
 
-/// Two damages: the first check that fails decides.
+/// Two damages, neighbours or any two: the first check that fails decides.
 fn pairs_of_damages(bench: &mut Bench, random: &mut Random) {
     for _ in 0..100 {
         let shape = small(random);
         let right = shape.package.bytes();
         let damages = damage::all(&shape.package, random);
-        for _ in 0..200 {
-            let one = &damages[random.below(damages.len())];
-            let other = &damages[random.below(damages.len())];
+        let mut pairs: Vec<[usize; 2]> = (1..damages.len()).map(|at| [at - 1, at]).collect();
+        pairs.extend((0..200).map(|_| [0; 2].map(|_| random.below(damages.len()))));
+        for [one, other] in pairs {
+            let (one, other) = (&damages[one], &damages[other]);
             let Some((number, place)) = one.first_of(other) else {
                 continue;
             };

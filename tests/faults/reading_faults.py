@@ -51,6 +51,12 @@ LED_COUNT = (
     "        check(17, header.count(tag) == header.count(leader), tag as usize)?;\n"
     "    }\n"
 )
+SYSTEM_TEXT = '    check(18, is_text(header, 1021, b"linux\\0"), 1021)?;\n'
+PROGRAM_TEXTS = (
+    "    for tag in 1085..=1088 {\n"
+    '        check(18, is_text(header, tag, b"/bin/sh\\0"), tag as usize)?;\n'
+    "    }\n"
+)
 INSIDE = "        check(18, inside, 1116)?;\n"
 ENDED = (
     '        let ended = header.strings(names).all(|name| name.ends_with(b"/\\0"));\n'
@@ -94,6 +100,7 @@ FAULTS = [
      "    }\n"
      "    for line in lines.iter().filter(|line| line.exists_in(edition)) {\n"),
     (14, "header's lines first", LINES + HEADER_LINES, HEADER_LINES + LINES),
+    (14, "lines from the last", "in lines.iter().filter", "in lines.iter().rev().filter"),
     (14, "other type is absent",
      "let Some(record) = structure.tagged(line.tag) else",
      "let Some(record) = structure.record(line.tag, line.ty) else"),
@@ -171,6 +178,10 @@ FAULTS = [
      "check_needs(header, script - 1023 + 1085, script)"),
     (17, "scriptlets need the first program",
      "check_needs(header, script, script - 1023 + 1085)", "check_needs(header, script, 1085)"),
+    (17, "scriptlets from the last", "for script in 1023..=1026 {",
+     "for script in (1023..=1026).rev() {"),
+    (17, "file tags from the last", "for tag in FILE_TAGS {",
+     "for tag in FILE_TAGS.into_iter().rev() {"),
     (17, "1045 not counted", "1039, 1040, 1045, 1095", "1039, 1040, 1040, 1095"),
     (17, "1097 not counted", "1095, 1096, 1097,", "1095, 1096, 1096,"),
     (17, "1030 not counted", "    1030, 1033, 1034, 1035,", "    1033, 1033, 1034, 1035,"),
@@ -189,6 +200,8 @@ FAULTS = [
      "(1116..=1118).all(|tag| !header.has(tag))", "(1116..=1117).all(|tag| !header.has(tag))"),
     (17, "place 1116 for both forms", "files && alone, 1027)", "files && alone, 1116)"),
     (17, "1118 may be missing", NAMES_MISSING, NAMES_MISSING.replace("1118", "1117")),
+    (17, "highest missing name", NAMES_MISSING,
+     NAMES_MISSING.replace("1116..=1118", "(1116..=1118).rev()")),
     (17, "names not asked", NAMES_MISSING,
      "    if !header.has(1116) && !header.has(1117) && !header.has(1118) {\n"
      "        return Ok(());\n    }\n" + NAMES_MISSING),
@@ -230,7 +243,7 @@ FAULTS = [
     (17, "led place is the leader", LED_COUNT,
      LED_COUNT.replace("tag as usize", "leader as usize")),
 
-    (18, "system not tested", '    check(18, is_text(header, 1021, b"linux\\0"), 1021)?;\n', ""),
+    (18, "system not tested", SYSTEM_TEXT, ""),
     (18, "system's beginning",
      "header.data(record) == text", "header.data(record).starts_with(&text[..text.len() - 1])"),
     (18, "text's first bytes",
@@ -258,7 +271,10 @@ FAULTS = [
     (18, "directory holds /", 'name.ends_with(b"/\\0")', "name.contains(&b'/')"),
     (18, "1118 before 1116", INSIDE + ENDED, ENDED + INSIDE),
     (18, "place of 1118", "check(18, ended, 1118)", "check(18, ended, 1117)"),
+    (18, "programs from the last", "for tag in 1085..=1088 {", "for tag in (1085..=1088).rev() {"),
+    (18, "programs before the system", SYSTEM_TEXT + PROGRAM_TEXTS, PROGRAM_TEXTS + SYSTEM_TEXT),
     (18, "none tested", TEXTS, ""),
+    (18, "before 17", GROUPS + TEXTS, TEXTS + GROUPS),
     (18, "after 19",
      TEXTS + "\n" + THE_BOOK + CHECK_19, THE_BOOK + CHECK_19 + TEXTS),
 
@@ -315,6 +331,16 @@ FAULTS = [
      "check(22, dose.is_right(), place)", "check(22, dose.is_right(), body)"),
     (22, "not tested for 98",
      "check(22, dose.is_right(), place)", "check(22, dose.is_right() || kind == 0x98, place)"),
+    (22, "tolerance 0 refused",
+     "check(22, dose.is_right(), place)",
+     "check(22, dose.is_right() && book[body + 6..end] != [0, 0], place)"),
+    (22, "tolerance FFFF refused",
+     "check(22, dose.is_right(), place)",
+     "check(22, dose.is_right() && book[body + 6..end] != [0xFF, 0xFF], place)"),
+    (22, "page 0 refused", END,
+     END + "        check(22, kind != 2 || book[body..end] != [0, 0], place)?;\n"),
+    (22, "date 0 refused", END,
+     END + "        check(22, kind != 0x14 || book[body..end] != [0; 4], place)?;\n"),
     (22, "after all records",
      CHECK_22 + RECORDS_END,
      RECORDS_END.replace(
@@ -354,6 +380,8 @@ FAULTS = [
      "room >= needed, needed", "room >= needed, needed.saturating_sub(room)"),
     (24, "remainder used", "buffer.len() / 4)", "buffer.len().div_ceil(4))"),
     (24, "room in bytes", "buffer.len() / 4)", "buffer.len())"),
+    (24, "room in bytes of 16 bits", "buffer.len() / 4)", "buffer.len() as u16 as usize / 4)"),
+    (24, "room of 16 bits", "buffer.len() / 4)", "buffer.len() / 4 % 65_536)"),
     (24, "room for any book asked", "room >= needed, needed", "room >= needed.max(2), needed"),
 
     # The dose buffer.

@@ -29,7 +29,7 @@ OUT = pathlib.Path("target/host/faults")
 REFERENCE = pathlib.Path("tests/reference")
 # As deep as tests/reference, so that the samples find the files that they include.
 COPY = OUT / "reference"
-RUST = ["rustc", "--edition", "2021", "-A", "warnings"]
+RUST = ["rustc", "--edition", "2021", "-A", "warnings", "-C", f"incremental={OUT / 'incremental'}"]
 FAULTS = package_faults.FAULTS + reading_faults.FAULTS
 
 CONTENT = "one damage to an accepted package"

@@ -150,7 +150,17 @@ fn rooms(desk: &mut Desk, random: &mut Random) {
         for room in needed.saturating_sub(13)..needed + 14 {
             desk.both(room, Some(&book.known));
         }
-        for room in (0..13).chain([needed / 2, 2 * needed, 2 * needed + 1, 9999, 100_000]) {
+        // 65,536 bytes and 65,536 numbers: the low 16 bits of the length are zero.
+        let large = [
+            needed / 2,
+            2 * needed,
+            2 * needed + 1,
+            9999,
+            65_536,
+            100_000,
+            1 << 18,
+        ];
+        for room in (0..13).chain(large) {
             desk.both(room, Some(&book.known));
         }
     }
@@ -272,13 +282,22 @@ fn kinds(desk: &mut Desk, random: &mut Random) {
     ];
     for front in fronts {
         for kind in 0..=255 {
-            let mut body = random.bytes(length(kind));
-            if body.len() >= 6 {
-                body[..6].copy_from_slice(&cobalt);
-            }
+            let with_dose = |mut body: Vec<u8>| {
+                if body.len() >= 6 {
+                    body[..6].copy_from_slice(&cobalt);
+                }
+                body
+            };
+            let body = with_dose(random.bytes(length(kind)));
             for cut in 0..body.len() {
                 let mut book = Book::of(front);
                 book.record(kind, &body[..cut]);
+                read_book(desk, random, &book);
+            }
+            // What else stands in a body is free.
+            for byte in [0x00, 0xFF] {
+                let mut book = Book::of(front);
+                book.record(kind, &with_dose(vec![byte; length(kind)]));
                 read_book(desk, random, &book);
             }
             for after in [None, Some(0x00), Some(0x86), Some(0x80), Some(0x02)] {
