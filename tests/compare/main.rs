@@ -13,6 +13,8 @@ mod content;
 mod damage;
 mod families;
 mod fence;
+#[cfg(reading)]
+mod lines;
 mod maker;
 mod questions;
 mod random;

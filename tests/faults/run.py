@@ -27,8 +27,8 @@ import reading_faults
 
 OUT = pathlib.Path("target/host/faults")
 REFERENCE = pathlib.Path("tests/reference")
-# As deep as tests/reference, so that the samples find the files that they include.
-COPY = OUT / "reference"
+# Beside links to tests/compare and tests/data, which the samples include.
+COPY = OUT / "tests/reference"
 RUST = ["rustc", "--edition", "2021", "-A", "warnings", "-C", f"incremental={OUT / 'incremental'}"]
 FAULTS = package_faults.FAULTS + reading_faults.FAULTS
 
@@ -53,12 +53,12 @@ def build_library():
           "-o", OUT / "libstation.so")
 
 
-def build_compare(folder, level):
+def build_compare(folder):
     """The comparison, with the reference in this folder."""
     reference = OUT / "libreference.rlib"
     rustc("-C", "opt-level=1", "--crate-type", "rlib", "--crate-name", "reference",
           folder / "lib.rs", "-o", reference)
-    rustc("-C", f"opt-level={level}", "--cfg", "reading", "tests/compare/main.rs",
+    rustc("-C", "opt-level=1", "--cfg", "reading", "tests/compare/main.rs",
           "--extern", f"reference={reference}",
           "-C", f"link-arg={OUT / 'libstation.so'}", "-o", OUT / "compare")
 
@@ -71,10 +71,9 @@ def compare(*family):
     )
     if done.returncode == 0:
         return None
-    said = done.stderr.splitlines()
-    named = re.search('DIFFERENCE in "(.*)", package', done.stderr)
-    answers = [line for line in said if line.startswith("library")] or said[-1:]
-    return (named[1] if named else "a panic of the reference"), answers[0]
+    difference = re.search('DIFFERENCE in "(.*)", package .*\n(.*)', done.stderr)
+    panic = re.search("panicked at .*\n(.*)", done.stderr)
+    return difference.groups() if difference else ("a panic", panic[1])
 
 
 def samples():
@@ -95,7 +94,7 @@ def plant(right, old, new):
 def find(check, alike):
     build_library()
     if alike:
-        build_compare(COPY, 0)
+        build_compare(COPY)
     found = compare(FIRST.get(check, "one damage")) or compare()
     if alike:
         found = found or samples()
@@ -120,6 +119,10 @@ def main():
     words = parser.parse_args()
     begun = time.monotonic()
     COPY.mkdir(parents=True, exist_ok=True)
+    for name in ["compare", "data"]:
+        link = COPY.parent / name
+        if not link.exists():
+            link.symlink_to(pathlib.Path("tests", name).resolve())
     shutil.copy("tests/faults/standin.rs", COPY)
     shutil.copy(REFERENCE / "tables.txt", COPY)
     right = {path.name: path.read_text() for path in REFERENCE.glob("*.rs")}
@@ -129,7 +132,7 @@ def main():
             sys.exit(f"faults: {what}: its text isn't found once")
     plant(right, "", "")
     build_library()
-    build_compare(REFERENCE, 1)
+    build_compare(REFERENCE)
     if compare():
         sys.exit("faults: a difference without a fault")
 
