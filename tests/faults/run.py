@@ -103,12 +103,12 @@ def find(check, alike):
 
 def rows(results):
     """A row of Markdown for each check."""
-    for check in dict.fromkeys(check for check, _, _ in results):
-        those = [(what, family) for number, what, family in results if number == check]
-        families = [family for _, family in those if family]
-        missed = [what for what, family in those if not family]
-        first = families[0] if families else "-"
-        yield f"| {check} | {len(those)} | {len(families)} | {first} | {'; '.join(missed) or '-'} |"
+    checks = sorted({check for check, _, _ in results}, key=lambda c: (isinstance(c, str), c))
+    for check in checks:
+        families = [family for number, _, family in results if number == check]
+        found = [family for family in families if family]
+        first = found[0] if found else "none"
+        yield f"| {check} | {len(families)} | {len(found)} | {first} |"
 
 
 def main():
@@ -150,7 +150,8 @@ def main():
     if words.table:
         date = datetime.date.today().isoformat()
         total = f"{found} of {len(results)} found on {date}, in {minutes:.1f} minutes."
-        words.table.write_text("\n".join([*rows(results), "", total, ""]))
+        missed = [f"Not found: {check}, {what}." for check, what, family in results if not family]
+        words.table.write_text("\n".join([*rows(results), "", total, *missed, ""]))
     sys.exit(found != len(results))
 
 
