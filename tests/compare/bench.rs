@@ -110,6 +110,7 @@ pub struct Bench {
     fence: Fence,
     pub lent: *const u8,
     current: Box<Current>,
+    only: Option<String>,
     pub packages: usize,
     pub comparisons: usize,
     /// How often each number was the answer.
@@ -147,8 +148,9 @@ fn fail(current: &Current, difference: &str) -> ! {
 }
 
 impl Bench {
-    /// `report` is where a package that makes a difference is written.
-    pub fn new(report: PathBuf) -> Bench {
+    /// `report` is where a package that makes a difference is written; `only` is the
+    /// one family to try.
+    pub fn new(report: PathBuf, only: Option<String>) -> Bench {
         let mut bench = Bench {
             fence: Fence::new(),
             lent: ptr::null(),
@@ -160,6 +162,7 @@ impl Bench {
                 again: None,
                 report,
             }),
+            only,
             packages: 0,
             comparisons: 0,
             numbers: BTreeMap::new(),
@@ -177,10 +180,11 @@ impl Bench {
         unsafe { alarm(seconds) };
     }
 
-    /// Starts a family of cases.
-    pub fn family(&mut self, name: &'static str) {
-        self.current.family = name;
+    /// Starts a family of cases, if it is one to try.
+    pub fn begins(&mut self, family: &'static str) -> bool {
+        self.current.family = family;
         self.current.case = 0;
+        self.only.as_ref().map_or(true, |only| only == family)
     }
 
     /// The package that the next questions are about.

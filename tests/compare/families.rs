@@ -8,18 +8,18 @@ use crate::questions::*;
 use crate::random::Random;
 use crate::shapes::{shape, Known, Plan, Shape, LAWFUL};
 
-/// All families, in the order in which they run.
-pub const ALL: [fn(&mut Bench, &mut Random); 10] = [
-    right_packages,
-    many_records,
-    sizes,
-    damages,
-    pairs_of_damages,
-    cuts,
-    lost_zero_bytes,
-    extreme_fields,
-    soup,
-    noise,
+/// All families with their names, in the order in which they run.
+pub const ALL: [(&str, fn(&mut Bench, &mut Random)); 10] = [
+    ("right packages", right_packages),
+    ("many records", many_records),
+    ("sizes", sizes),
+    ("one damage", damages),
+    ("two damages", pairs_of_damages),
+    ("cuts", cuts),
+    ("lost zero bytes", lost_zero_bytes),
+    ("extreme fields", extreme_fields),
+    ("random records", soup),
+    ("random bytes", noise),
 ];
 
 fn small(random: &mut Random) -> Shape {
@@ -28,7 +28,6 @@ fn small(random: &mut Random) -> Shape {
 }
 
 fn right_packages(bench: &mut Bench, random: &mut Random) {
-    bench.family("right packages");
     for _ in 0..600 {
         let shape = small(random);
         bench.package(&shape.package.bytes());
@@ -40,7 +39,6 @@ fn right_packages(bench: &mut Bench, random: &mut Random) {
 }
 
 fn many_records(bench: &mut Bench, random: &mut Random) {
-    bench.family("many records");
     for count in [1, 2, 15, 16, 17, 64, 127, 128, 255, 256, 257, 511, 512] {
         for records in [[count, 3], [2, count], [count, count]] {
             let plan = Plan {
@@ -83,7 +81,6 @@ fn many_records(bench: &mut Bench, random: &mut Random) {
 
 /// Packages at and over the largest size, and entries that fill them.
 fn sizes(bench: &mut Bench, random: &mut Random) {
-    bench.family("sizes");
     let limit = 65_536;
     for size in [65_535, limit, 65_537, 65_540, 70_000, 131_072, ROOM] {
         let mut shape = small(random);
@@ -146,7 +143,6 @@ fn one_large_entry(ty: u32, size: usize) -> (Vec<u8>, Known) {
 
 /// Each damage of each check, one at a time.
 fn damages(bench: &mut Bench, random: &mut Random) {
-    bench.family("one damage");
     for _ in 0..100 {
         let shape = small(random);
         let right = shape.package.bytes();
@@ -160,16 +156,16 @@ fn damages(bench: &mut Bench, random: &mut Random) {
     }
 }
 
-/// Two damages: the first check that fails decides.
+/// Two damages, neighbours or any two: the first check that fails decides.
 fn pairs_of_damages(bench: &mut Bench, random: &mut Random) {
-    bench.family("two damages");
     for _ in 0..100 {
         let shape = small(random);
         let right = shape.package.bytes();
         let damages = damage::all(&shape.package, random);
-        for _ in 0..200 {
-            let one = &damages[random.below(damages.len())];
-            let other = &damages[random.below(damages.len())];
+        let mut pairs: Vec<[usize; 2]> = (1..damages.len()).map(|at| [at - 1, at]).collect();
+        pairs.extend((0..200).map(|_| [0; 2].map(|_| random.below(damages.len()))));
+        for [one, other] in pairs {
+            let (one, other) = (&damages[one], &damages[other]);
             let Some((number, place)) = one.first_of(other) else {
                 continue;
             };
@@ -184,7 +180,6 @@ fn pairs_of_damages(bench: &mut Bench, random: &mut Random) {
 
 /// Small packages cut at every length, large ones around their boundaries.
 fn cuts(bench: &mut Bench, random: &mut Random) {
-    bench.family("cuts");
     for round in 0..24 {
         let shape = if round < 20 {
             small(random)
@@ -216,7 +211,6 @@ fn cuts(bench: &mut Bench, random: &mut Random) {
 
 /// Each zero byte of a store lost, then all of the store's last ones.
 fn lost_zero_bytes(bench: &mut Bench, random: &mut Random) {
-    bench.family("lost zero bytes");
     for _ in 0..100 {
         let shape = small(random);
         let right = shape.package.bytes();
@@ -240,7 +234,6 @@ fn lost_zero_bytes(bench: &mut Bench, random: &mut Random) {
 
 /// Extreme numbers in every field of header and index records, one or two at a time.
 fn extreme_fields(bench: &mut Bench, random: &mut Random) {
-    bench.family("extreme fields");
     for _ in 0..30 {
         let shape = small(random);
         let right = shape.package.bytes();
@@ -272,7 +265,6 @@ fn extreme_fields(bench: &mut Bench, random: &mut Random) {
 
 /// Small structures of random records over few bytes: often right, wrong in any way.
 fn soup(bench: &mut Bench, random: &mut Random) {
-    bench.family("random records");
     for _ in 0..30_000 {
         let signature = match random.below(3) {
             0 => random_structure(random),
@@ -314,7 +306,6 @@ fn random_structure(random: &mut Random) -> Structure {
 
 /// Random bytes, alone or behind a right beginning; right packages with some bytes changed.
 fn noise(bench: &mut Bench, random: &mut Random) {
-    bench.family("random bytes");
     for round in 0..20_000 {
         let length = random.below(400);
         let shape = small(random);

@@ -1,7 +1,7 @@
 //! Compares the C calls of libstation.a with the reference, on packages made
 //! here (always the same ones) and on those in tests/data.
 //!
-//!     compare DATA-FOLDER REPORT-FILE
+//!     compare DATA-FOLDER REPORT-FILE [FAMILY]
 //!     compare ask PACKAGE STRUCTURE TAG TYPE [ELEMENT]
 //!     compare read PACKAGE EDITION BUFFER-LENGTH
 //!
@@ -13,6 +13,8 @@ mod content;
 mod damage;
 mod families;
 mod fence;
+#[cfg(reading)]
+mod lines;
 mod maker;
 mod questions;
 mod random;
@@ -46,7 +48,12 @@ fn main() {
             reading::show(&package, edition.parse().unwrap(), room.parse().unwrap());
         }
         [data, report] => all(Path::new(data), PathBuf::from(report)),
-        _ => panic!("compare DATA-FOLDER REPORT-FILE"),
+        [data, report, family] => {
+            let mut bench = Bench::new(PathBuf::from(report), Some(family.clone()));
+            run(&mut bench, Path::new(data));
+            assert!(bench.packages > 0, "no family {family:?}");
+        }
+        _ => panic!("compare DATA-FOLDER REPORT-FILE [FAMILY]"),
     }
 }
 
@@ -61,16 +68,29 @@ fn one(package: &str, numbers: &[String]) {
     show(&std::fs::read(package).unwrap(), question);
 }
 
+/// Runs the families; the answer is how many lines of rpm's were compared.
+fn run(bench: &mut Bench, data: &Path) -> usize {
+    let mut lines = 0;
+    if bench.begins("what rpm reads") {
+        lines = real::as_rpm_reads(bench, data);
+    }
+    for (seed, (name, family)) in families::ALL.iter().enumerate() {
+        if bench.begins(name) {
+            family(bench, &mut Random::new(seed as u64));
+        }
+    }
+    if bench.begins("packages of other writers") {
+        real::asked_and_damaged(bench, &mut Random::new(99), data);
+    }
+    #[cfg(reading)]
+    reading::all(bench, data);
+    lines
+}
+
 fn all(data: &Path, report: PathBuf) {
     let begun = Instant::now();
-    let mut bench = Bench::new(report);
-    let lines = real::as_rpm_reads(&mut bench, data);
-    for (seed, family) in families::ALL.iter().enumerate() {
-        family(&mut bench, &mut Random::new(seed as u64));
-    }
-    real::asked_and_damaged(&mut bench, &mut Random::new(99), data);
-    #[cfg(reading)]
-    reading::all(&mut bench, data);
+    let mut bench = Bench::new(report, None);
+    let lines = run(&mut bench, data);
 
     let seconds = begun.elapsed().as_secs_f64();
     println!(

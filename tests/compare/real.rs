@@ -52,7 +52,6 @@ pub fn as_rpm_reads(bench: &mut Bench, data: &Path) -> usize {
     let mut package = Vec::new();
     let mut open = String::new();
     let mut lines = 0;
-    bench.family("what rpm reads");
     for line in text.lines().filter(|line| !line.starts_with('#')) {
         let Line {
             file,
@@ -94,7 +93,6 @@ pub fn files(data: &Path) -> Vec<PathBuf> {
 
 /// Every record, then the packages with bytes changed and cut off.
 pub fn asked_and_damaged(bench: &mut Bench, random: &mut Random, data: &Path) {
-    bench.family("packages of other writers");
     for file in files(data) {
         let right = std::fs::read(file).unwrap();
         let records = records(&right);

@@ -1,6 +1,21 @@
 """Faults in lib.rs: size, lead, structures (checks 2 to 13) and look-ups."""
 
-# Check (0: another thing), what is wrong, the right text (found once), the wrong text.
+MAJOR = "    check(4, lead[4] == 3, 4)?;\n"
+MINOR = "    check(4, lead[5] == 0, 5)?;\n"
+NAME = "    check(4, lead[10..76].contains(&0), 10)?;\n"
+SYSTEM = "    check(4, lead[76..78] == [0, 1], 76)?;\n"
+MAGIC = "        check(6, magic == [0x8E, 0xAD, 0xE8, 0x01], start)?;\n"
+RESERVED = "        check(6, reserved == [0, 0, 0, 0], start + 4)?;\n"
+CHECK_7 = "        check(7, (1..=MAX_NINDEX).contains(&nindex), start + 8)?;\n"
+STORE = (
+    "        let store_place = index_place + INDEX_RECORD_SIZE * nindex;\n"
+    "        let end = store_place + hsize;\n"
+)
+CHECK_8 = "        check(8, end <= package.len(), start + 12)?;\n"
+RECORDS = "        for (position, record) in structure.records().enumerate() {\n"
+CHECK_9 = "            check(9, elements(record.ty).is_some(), place)?;\n"
+
+# Check ("package": no check's), what is wrong, the right text (found once), the wrong text.
 FAULTS = [
     (2, "limit one too low", "package.len() <= MAX_PACKAGE", "package.len() < MAX_PACKAGE"),
     (2, "limit one too high", "MAX_PACKAGE: usize = 65_536", "MAX_PACKAGE: usize = 65_537"),
@@ -17,6 +32,8 @@ FAULTS = [
     (4, "system's high byte", "lead[76..78] == [0, 1]", "lead[77] == 1"),
     (4, "signature type at least 5",
      "lead[78..80] == [0, 5]", "lead[78] == 0 && lead[79] >= 5"),
+    (4, "minor before major", MAJOR + MINOR, MINOR + MAJOR),
+    (4, "system before name", NAME + SYSTEM, SYSTEM + NAME),
     (5, "17 bytes asked",
      "check(5, index_place <= package.len()", "check(5, index_place < package.len()"),
     (5, "place is the length",
@@ -28,9 +45,11 @@ FAULTS = [
      "check(6, reserved == [0, 0, 0, 0], start)"),
     (6, "version byte not tested",
      "magic == [0x8E, 0xAD, 0xE8, 0x01]", "magic[..3] == [0x8E, 0xAD, 0xE8]"),
+    (6, "reserved before magic", MAGIC + RESERVED, RESERVED + MAGIC),
     (7, "513 allowed", "MAX_NINDEX: usize = 512", "MAX_NINDEX: usize = 513"),
     (7, "512 refused", "MAX_NINDEX: usize = 512", "MAX_NINDEX: usize = 511"),
     (7, "0 allowed", "(1..=MAX_NINDEX)", "(0..=MAX_NINDEX)"),
+    (7, "after 8", CHECK_7 + STORE + CHECK_8, STORE + CHECK_8 + CHECK_7),
     (8, "a byte of payload asked",
      "check(8, end <= package.len()", "check(8, end < package.len()"),
     (8, "end in 32 bits",
@@ -42,6 +61,9 @@ FAULTS = [
     (9, "type of 8 bits",
      "    match ty {\n        1 | 2", "    match ty & 255 {\n        1 | 2"),
     (9, "char refused", "        1 | 2 | BIN =>", "        2 | BIN =>"),
+    (9, "of all records first", RECORDS,
+     RECORDS + "            let place = structure.record_place(position);\n" + CHECK_9
+     + "        }\n" + RECORDS),
     (10, "count 0 allowed", "_ => self.count >= 1", "_ => true"),
     (10, "type 9 of any count",
      "STRING | TRANSLATED_STRING => self.count == 1", "STRING => self.count == 1"),
@@ -53,6 +75,11 @@ FAULTS = [
     (11, "not tested", "self.offset as usize % size == 0", "true"),
     (11, "int32 to 2",
      "self.offset as usize % size == 0", "self.offset as usize % size.min(2) == 0"),
+    (11, "after 12",
+     "check(11, record.is_aligned(), place)?;\n"
+     "            check(12, record.data(structure.store).is_some(), place)?;",
+     "check(12, record.data(structure.store).is_some(), place)?;\n"
+     "            check(11, record.is_aligned(), place)?;"),
     (12, "product in 32 bits",
      "let end = start + size * count;",
      "let end = start + (size as u32).wrapping_mul(count as u32) as usize;"),
@@ -83,6 +110,9 @@ FAULTS = [
     (13, "place of the next record",
      "earlier.all(|other| other.tag != record.tag), place)",
      "earlier.all(|other| other.tag != record.tag), place + 16)"),
+    (13, "before 9", CHECK_9,
+     "            let mut before = structure.records().take(position);\n"
+     "            check(13, before.all(|other| other.tag != record.tag), place)?;\n" + CHECK_9),
     (25, "type ignored", "record.tag == tag && record.ty == ty", "record.tag == tag"),
     (25, "tag ignored", "record.tag == tag && record.ty == ty", "record.ty == ty"),
     (25, "first record not seen",
@@ -98,38 +128,33 @@ FAULTS = [
     (26, "numbers of 16 bits",
      "check(26, element < record.count, 0)",
      "check(26, (element as u16) < record.count as u16, 0)"),
-    (0, "whole store shown",
+    ("package", "whole store shown",
      "let start = offset + size * skipped;",
      "let start = offset * skipped.min(1) + size * skipped;"),
-    (0, "elements of one byte", "offset + size * skipped", "offset + skipped"),
-    (0, "next string shown",
+    ("package", "elements of one byte", "offset + size * skipped", "offset + skipped"),
+    ("package", "next string shown",
      "strings_end(store, offset, skipped)?",
      "strings_end(store, offset, skipped + usize::from(count == 1 && skipped > 1))?"),
-    (0, "place in the store", "self.store_place + part.start..", "part.start.."),
-    (0, "places of 15 bits",
+    ("package", "place in the store", "self.store_place + part.start..", "part.start.."),
+    ("package", "places of 15 bits",
      "self.store_place + part.start..", "(self.store_place + part.start) % 32_768.."),
-    (0, "only 1 is the header", "if number == 0 {", "if number != 1 {"),
-    (0, "H not rounded up", "signature.end().next_multiple_of(8)", "signature.end()"),
-    (0, "H a multiple of 4", "next_multiple_of(8)", "next_multiple_of(4)"),
-    (0, "always some padding",
+    ("package", "only 1 is the header", "if number == 0 {", "if number != 1 {"),
+    ("package", "H not rounded up", "signature.end().next_multiple_of(8)", "signature.end()"),
+    ("package", "H a multiple of 4", "next_multiple_of(8)", "next_multiple_of(4)"),
+    ("package", "always some padding",
      "signature.end().next_multiple_of(8)", "(signature.end() + 1).next_multiple_of(8)"),
-    (0, "signature stands alone",
+    ("package", "signature stands alone",
      "let structure = sound(package)?.structure(structure);\n    match",
      "let opened = if structure == 0 { Structure::read(package, 96)? } else { sound(package)?.header };\n"
      "    let structure = opened;\n"
      "    match"),
-    (0, "12 before 11",
-     "check(11, record.is_aligned(), place)?;\n"
-     "            check(12, record.data(structure.store).is_some(), place)?;",
-     "check(12, record.data(structure.store).is_some(), place)?;\n"
-     "            check(11, record.is_aligned(), place)?;"),
-    (0, "refuses everything",
+    ("package", "refuses everything",
      "check(2, package.len() <= MAX_PACKAGE, 0)", "check(2, false, 0)"),
-    (0, "reads one byte more",
+    ("package", "reads one byte more",
      "    check_lead(",
      "    std::hint::black_box(unsafe { std::ptr::read_volatile(package.as_ptr().add(package.len())) });\n"
      "    check_lead("),
-    (0, "writes into the package",
+    ("package", "writes into the package",
      "    check_lead(",
      "    unsafe { std::ptr::write_volatile(package.as_ptr().cast_mut(), 0xED) };\n"
      "    check_lead("),

@@ -51,6 +51,12 @@ LED_COUNT = (
     "        check(17, header.count(tag) == header.count(leader), tag as usize)?;\n"
     "    }\n"
 )
+SYSTEM_TEXT = '    check(18, is_text(header, 1021, b"linux\\0"), 1021)?;\n'
+PROGRAM_TEXTS = (
+    "    for tag in 1085..=1088 {\n"
+    '        check(18, is_text(header, tag, b"/bin/sh\\0"), tag as usize)?;\n'
+    "    }\n"
+)
 INSIDE = "        check(18, inside, 1116)?;\n"
 ENDED = (
     '        let ended = header.strings(names).all(|name| name.ends_with(b"/\\0"));\n'
@@ -94,6 +100,7 @@ FAULTS = [
      "    }\n"
      "    for line in lines.iter().filter(|line| line.exists_in(edition)) {\n"),
     (14, "header's lines first", LINES + HEADER_LINES, HEADER_LINES + LINES),
+    (14, "lines from the last", "in lines.iter().filter", "in lines.iter().rev().filter"),
     (14, "other type is absent",
      "let Some(record) = structure.tagged(line.tag) else",
      "let Some(record) = structure.record(line.tag, line.ty) else"),
@@ -171,6 +178,10 @@ FAULTS = [
      "check_needs(header, script - 1023 + 1085, script)"),
     (17, "scriptlets need the first program",
      "check_needs(header, script, script - 1023 + 1085)", "check_needs(header, script, 1085)"),
+    (17, "scriptlets from the last", "for script in 1023..=1026 {",
+     "for script in (1023..=1026).rev() {"),
+    (17, "file tags from the last", "for tag in FILE_TAGS {",
+     "for tag in FILE_TAGS.into_iter().rev() {"),
     (17, "1045 not counted", "1039, 1040, 1045, 1095", "1039, 1040, 1040, 1095"),
     (17, "1097 not counted", "1095, 1096, 1097,", "1095, 1096, 1096,"),
     (17, "1030 not counted", "    1030, 1033, 1034, 1035,", "    1033, 1033, 1034, 1035,"),
@@ -189,6 +200,8 @@ FAULTS = [
      "(1116..=1118).all(|tag| !header.has(tag))", "(1116..=1117).all(|tag| !header.has(tag))"),
     (17, "place 1116 for both forms", "files && alone, 1027)", "files && alone, 1116)"),
     (17, "1118 may be missing", NAMES_MISSING, NAMES_MISSING.replace("1118", "1117")),
+    (17, "highest missing name", NAMES_MISSING,
+     NAMES_MISSING.replace("1116..=1118", "(1116..=1118).rev()")),
     (17, "names not asked", NAMES_MISSING,
      "    if !header.has(1116) && !header.has(1117) && !header.has(1118) {\n"
      "        return Ok(());\n    }\n" + NAMES_MISSING),
@@ -230,7 +243,7 @@ FAULTS = [
     (17, "led place is the leader", LED_COUNT,
      LED_COUNT.replace("tag as usize", "leader as usize")),
 
-    (18, "system not tested", '    check(18, is_text(header, 1021, b"linux\\0"), 1021)?;\n', ""),
+    (18, "system not tested", SYSTEM_TEXT, ""),
     (18, "system's beginning",
      "header.data(record) == text", "header.data(record).starts_with(&text[..text.len() - 1])"),
     (18, "text's first bytes",
@@ -258,7 +271,10 @@ FAULTS = [
     (18, "directory holds /", 'name.ends_with(b"/\\0")', "name.contains(&b'/')"),
     (18, "1118 before 1116", INSIDE + ENDED, ENDED + INSIDE),
     (18, "place of 1118", "check(18, ended, 1118)", "check(18, ended, 1117)"),
+    (18, "programs from the last", "for tag in 1085..=1088 {", "for tag in (1085..=1088).rev() {"),
+    (18, "programs before the system", SYSTEM_TEXT + PROGRAM_TEXTS, PROGRAM_TEXTS + SYSTEM_TEXT),
     (18, "none tested", TEXTS, ""),
+    (18, "before 17", GROUPS + TEXTS, TEXTS + GROUPS),
     (18, "after 19",
      TEXTS + "\n" + THE_BOOK + CHECK_19, THE_BOOK + CHECK_19 + TEXTS),
 
@@ -315,6 +331,16 @@ FAULTS = [
      "check(22, dose.is_right(), place)", "check(22, dose.is_right(), body)"),
     (22, "not tested for 98",
      "check(22, dose.is_right(), place)", "check(22, dose.is_right() || kind == 0x98, place)"),
+    (22, "tolerance 0 refused",
+     "check(22, dose.is_right(), place)",
+     "check(22, dose.is_right() && book[body + 6..end] != [0, 0], place)"),
+    (22, "tolerance FFFF refused",
+     "check(22, dose.is_right(), place)",
+     "check(22, dose.is_right() && book[body + 6..end] != [0xFF, 0xFF], place)"),
+    (22, "page 0 refused", END,
+     END + "        check(22, kind != 2 || book[body..end] != [0, 0], place)?;\n"),
+    (22, "date 0 refused", END,
+     END + "        check(22, kind != 0x14 || book[body..end] != [0; 4], place)?;\n"),
     (22, "after all records",
      CHECK_22 + RECORDS_END,
      RECORDS_END.replace(
@@ -354,66 +380,68 @@ FAULTS = [
      "room >= needed, needed", "room >= needed, needed.saturating_sub(room)"),
     (24, "remainder used", "buffer.len() / 4)", "buffer.len().div_ceil(4))"),
     (24, "room in bytes", "buffer.len() / 4)", "buffer.len())"),
+    (24, "room in bytes of 16 bits", "buffer.len() / 4)", "buffer.len() as u16 as usize / 4)"),
+    (24, "room of 16 bits", "buffer.len() / 4)", "buffer.len() / 4 % 65_536)"),
     (24, "room for any book asked", "room >= needed, needed", "room >= needed.max(2), needed"),
 
     # The dose buffer.
-    (0, "little-endian", WRITE_C, WRITE_C.replace("to_be", "to_le")),
-    (0, "milligrams first", NUMBERS, "[dose.milligrams, u32::from(dose.oxide)]"),
-    (0, "nothing written", WRITE_C, ""),
-    (0, "fixed doses", WRITE_C, WRITE_C.replace("&number.", "&(number % 1 + 27).")),
-    (0, "one dose too many counted", COUNT_C, "            doses.len() as u64 + 1\n"),
-    (0, "numbers counted", COUNT_C, "            2 * doses.len() as u64\n"),
-    (0, "rest cleared", COUNT_C,
+    ("buffer", "little-endian", WRITE_C, WRITE_C.replace("to_be", "to_le")),
+    ("buffer", "milligrams first", NUMBERS, "[dose.milligrams, u32::from(dose.oxide)]"),
+    ("buffer", "nothing written", WRITE_C, ""),
+    ("buffer", "fixed doses", WRITE_C, WRITE_C.replace("&number.", "&(number % 1 + 27).")),
+    ("buffer", "one dose too many counted", COUNT_C, "            doses.len() as u64 + 1\n"),
+    ("buffer", "numbers counted", COUNT_C, "            2 * doses.len() as u64\n"),
+    ("buffer", "rest cleared", COUNT_C,
      "            buffer[8 * doses.len()..].fill(0);\n" + COUNT_C),
-    (0, "one number behind cleared", COUNT_C,
+    ("buffer", "one number behind cleared", COUNT_C,
      "            buffer[8 * doses.len()..].iter_mut().take(4).for_each(|byte| *byte = 0);\n"
      + COUNT_C),
-    (0, "remainder cleared", COUNT_C,
+    ("buffer", "remainder cleared", COUNT_C,
      "            let whole = buffer.len() / 4 * 4;\n            buffer[whole..].fill(0);\n"
      + COUNT_C),
-    (0, "refusal clears the buffer", REFUSED_C,
+    ("buffer", "refusal clears the buffer", REFUSED_C,
      REFUSED_C.replace("refusal.packed(),", "{ buffer.fill(0); refusal.packed() }")),
-    (0, "refusal 24 writes what fits", REFUSED_C,
+    ("buffer", "refusal 24 writes what fits", REFUSED_C,
      REFUSED_C.replace(
          "refusal.packed(),",
          "{ if refusal.number == 24 { buffer.iter_mut().take(4).for_each(|b| *b = 0); }"
          " refusal.packed() }")),
-    (0, "doses written before the sum", REFUSED_C,
+    ("buffer", "doses written before the sum", REFUSED_C,
      REFUSED_C.replace(
          "refusal.packed(),",
          "{ if refusal.number == 23 { buffer.iter_mut().take(4).for_each(|b| *b = 0); }"
          " refusal.packed() }")),
-    (0, "writes before the buffer", COUNT_C,
+    ("buffer", "writes before the buffer", COUNT_C,
      "            unsafe { buffer.as_mut_ptr().sub(1).write_volatile(0) };\n" + COUNT_C),
-    (0, "writes behind the buffer", COUNT_C,
+    ("buffer", "writes behind the buffer", COUNT_C,
      "            unsafe { buffer.as_mut_ptr().add(buffer.len()).write_volatile(0) };\n" + COUNT_C),
 
     # Demand 3: the editions differ where they must not, or agree where they must not.
-    (0, "98 in edition 1", "(0x98, 2)", "(0x98, 1)"),
-    (0, "edition 1 skips weighed kinds",
+    ("demand3", "98 in edition 1", "(0x98, 2)", "(0x98, 1)"),
+    ("demand3", "edition 1 skips weighed kinds",
      RECORD + END + "        if is_weighed(kind) {\n",
      RECORD.replace("!is_weighed", "edition == 1 || !is_weighed") + END
      + "        if is_weighed(kind) && is_known(kind, edition) {\n"),
-    (0, "edition 1 refuses every book",
+    ("demand3", "edition 1 refuses every book",
      "!is_weighed(kind) || is_known(kind, edition)",
      "edition == 2 && (!is_weighed(kind) || is_known(kind, edition))"),
-    (0, "edition 1 refuses dates",
+    ("demand3", "edition 1 refuses dates",
      "!is_weighed(kind) || is_known(kind, edition)",
      "!is_weighed(kind) && (kind != 0x14 || edition == 2) || is_known(kind, edition)"),
-    (0, "a date's body in edition 1",
+    ("demand3", "a date's body in edition 1",
      "usize::from(kind % 16)",
      "if kind == 0x14 && edition == 1 { 0 } else { usize::from(kind % 16) }"),
-    (0, "edition 1 asks for 20002", "self.tag != BATCH_WEIGHT || edition == 2", "true"),
-    (0, "1045's line in edition 2 only",
+    ("demand3", "edition 1 asks for 20002", "self.tag != BATCH_WEIGHT || edition == 2", "true"),
+    ("demand3", "1045's line in edition 2 only",
      "self.tag != BATCH_WEIGHT || edition == 2",
      "self.tag != BATCH_WEIGHT && self.tag != 1045 || edition == 2"),
-    (0, "no groups in edition 1", GROUPS, "    if edition == 2 {\n    " + GROUPS + "    }\n"),
-    (0, "other milligrams in edition 2",
+    ("demand3", "no groups in edition 1", GROUPS, "    if edition == 2 {\n    " + GROUPS + "    }\n"),
+    ("demand3", "other milligrams in edition 2",
      "check(22, dose.is_right(), place)",
      "check(22, dose.is_right() && (edition == 1 || dose.milligrams < 5_000_000), place)"),
-    (0, "more room in edition 1",
+    ("demand3", "more room in edition 1",
      NEEDED, "    let needed = 2 * doses.len() + usize::from(edition == 1);\n"),
-    (0, "rest cleared in edition 1", COUNT_C,
+    ("demand3", "rest cleared in edition 1", COUNT_C,
      "            if edition == 1 {\n                buffer[8 * doses.len()..].fill(0);\n"
      "            }\n" + COUNT_C),
 ]

@@ -2,101 +2,157 @@
 """Plants faults, one at a time, in a copy of the reference that stands in for
 the library, and sees that the comparison finds each. Run from the root:
 
-    tests/faults/run.py [--alike] [CHECK...]
+    tests/faults/run.py [--alike] [--table FILE] [CHECK...]
 
-With check numbers, only the faults of those checks (0: no check's). With --alike
-the reference that is compared with gets the same fault, as if both had misread
-the paper: what is found then is found by what the maker of the packages knows,
-or by demand 3.
+With checks (numbers, `package`, `buffer`, `demand3`), only the faults of those.
+With --alike the reference that is compared with gets the same fault, as if both
+had misread the paper: what is found then is found by what the maker of the
+packages knows, by demand 3, or by the reference's own samples. With --table the
+rows for docs/TESTING.md are written to FILE.
 
 It is no part of tests/run.sh: it tests the tests.
 """
 
+import argparse
+import datetime
 import pathlib
+import re
 import shutil
 import subprocess
 import sys
+import time
 
 import package_faults
 import reading_faults
 
 OUT = pathlib.Path("target/host/faults")
-COPY = OUT / "reference"
-RUST = ["rustc", "--edition", "2021", "-O", "-A", "warnings"]
+REFERENCE = pathlib.Path("tests/reference")
+# Beside links to tests/compare and tests/data, which the samples include.
+COPY = OUT / "tests/reference"
+RUST = ["rustc", "--edition", "2021", "-A", "warnings", "-C", f"incremental={OUT / 'incremental'}"]
 FAULTS = package_faults.FAULTS + reading_faults.FAULTS
+
+CONTENT = "one damage to an accepted package"
+# The family to try before all others; for the checks that aren't here, "one damage".
+FIRST = {
+    1: "editions", 2: "sizes", 3: "cuts", 5: "cuts",
+    14: CONTENT, 15: CONTENT, 16: CONTENT, 17: CONTENT, 18: CONTENT,
+    19: "lengths of books", 20: "kinds", 21: "kinds", 22: "oxides and milligrams",
+    23: CONTENT, 24: "dose buffers", 25: "right packages", 26: "right packages",
+    "package": "right packages", "buffer": "dose buffers", "demand3": "kinds",
+}
+SAMPLES = "the reference's own samples"
+
+
+def rustc(*words):
+    subprocess.run([*RUST, *words], check=True)
 
 
 def build_library():
-    subprocess.run(
-        [*RUST, "--crate-type", "cdylib", COPY / "standin.rs", "-o", OUT / "libstation.so"],
-        check=True,
-    )
+    rustc("-C", "opt-level=1", "--crate-type", "cdylib", COPY / "standin.rs",
+          "-o", OUT / "libstation.so")
 
 
 def build_compare(folder):
     """The comparison, with the reference in this folder."""
     reference = OUT / "libreference.rlib"
-    subprocess.run(
-        [*RUST, "--crate-type", "rlib", "--crate-name", "reference",
-         folder / "lib.rs", "-o", reference],
-        check=True,
-    )
-    subprocess.run(
-        [*RUST, "--cfg", "reading", "tests/compare/main.rs",
-         "--extern", f"reference={reference}",
-         "-C", f"link-arg={OUT / 'libstation.so'}", "-o", OUT / "compare"],
-        check=True,
-    )
+    rustc("-C", "opt-level=1", "--crate-type", "rlib", "--crate-name", "reference",
+          folder / "lib.rs", "-o", reference)
+    rustc("-C", "opt-level=1", "--cfg", "reading", "tests/compare/main.rs",
+          "--extern", f"reference={reference}",
+          "-C", f"link-arg={OUT / 'libstation.so'}", "-o", OUT / "compare")
 
 
-def compare():
+def compare(*family):
+    """The family that found a difference and what was said of it, or None."""
     done = subprocess.run(
-        [OUT / "compare", "tests/data", OUT / "difference.rpm"], capture_output=True, text=True
+        [OUT / "compare", "tests/data", OUT / "difference.rpm", *family],
+        capture_output=True, text=True,
     )
-    return done.returncode, done.stderr.splitlines()
+    if done.returncode == 0:
+        return None
+    difference = re.search('DIFFERENCE in "(.*)", package .*\n(.*)', done.stderr)
+    panic = re.search("panicked at .*\n(.*)", done.stderr)
+    return difference.groups() if difference else ("a panic", panic[1])
+
+
+def samples():
+    """The same for the reference's own tests, on the copy."""
+    rustc("--test", COPY / "lib.rs", "-o", OUT / "reference_test")
+    done = subprocess.run([OUT / "reference_test"], capture_output=True, text=True)
+    if done.returncode == 0:
+        return None
+    return SAMPLES, ", ".join(re.findall(r"^test (\S+) \.\.\. FAILED", done.stdout, re.M))
 
 
 def plant(right, old, new):
     """Writes the copy with one text changed."""
     for name, text in right.items():
-        (COPY / name).write_text(text.replace(old, new))
+        (COPY / name).write_text(text if name.endswith("samples.rs") else text.replace(old, new))
+
+
+def find(check, alike):
+    build_library()
+    if alike:
+        build_compare(COPY)
+    found = compare(FIRST.get(check, "one damage")) or compare()
+    if alike:
+        found = found or samples()
+    return found
+
+
+def rows(results):
+    """A row of Markdown for each check."""
+    checks = sorted({check for check, _, _ in results}, key=lambda c: (isinstance(c, str), c))
+    for check in checks:
+        families = [family for number, _, family in results if number == check]
+        found = [family for family in families if family]
+        first = found[0] if found else "none"
+        yield f"| {check} | {len(families)} | {len(found)} | {first} |"
 
 
 def main():
-    words = sys.argv[1:]
-    alike = "--alike" in words
-    checks = [int(word) for word in words if word != "--alike"]
-    folder = pathlib.Path("tests/reference")
+    parser = argparse.ArgumentParser()
+    parser.add_argument("--alike", action="store_true")
+    parser.add_argument("--table", type=pathlib.Path)
+    parser.add_argument("checks", nargs="*")
+    words = parser.parse_args()
+    begun = time.monotonic()
     COPY.mkdir(parents=True, exist_ok=True)
+    for name in ["compare", "data"]:
+        link = COPY.parent / name
+        if not link.exists():
+            link.symlink_to(pathlib.Path("tests", name).resolve())
     shutil.copy("tests/faults/standin.rs", COPY)
-    right = {
-        path.name: path.read_text()
-        for path in folder.glob("*.rs")
-        if not path.name.endswith("samples.rs")
-    }
+    shutil.copy(REFERENCE / "tables.txt", COPY)
+    right = {path.name: path.read_text() for path in REFERENCE.glob("*.rs")}
     for _, what, old, _ in FAULTS:
-        if sum(text.count(old) for text in right.values()) != 1:
+        texts = [text for name, text in right.items() if not name.endswith("samples.rs")]
+        if sum(text.count(old) for text in texts) != 1:
             sys.exit(f"faults: {what}: its text isn't found once")
     plant(right, "", "")
     build_library()
-    build_compare(folder)
-    if compare()[0] != 0:
+    build_compare(REFERENCE)
+    if compare():
         sys.exit("faults: a difference without a fault")
 
-    faults = [fault for fault in FAULTS if not checks or fault[0] in checks]
-    missed = 0
-    for number, what, old, new in faults:
+    results = []
+    for check, what, old, new in FAULTS:
+        if words.checks and str(check) not in words.checks:
+            continue
         plant(right, old, new)
-        build_library()
-        if alike:
-            build_compare(COPY)
-        status, said = compare()
-        found = status != 0
-        missed += not found
-        answers = [line for line in said if line.startswith("library")] or said[-1:]
-        print(f"{number or '-':>2} {what}: {answers[0] if found else 'NOT FOUND'}", flush=True)
-    print(f"faults: {len(faults) - missed} of {len(faults)} found")
-    sys.exit(missed != 0)
+        family, said = find(check, words.alike) or (None, "NOT FOUND")
+        results.append((check, what, family))
+        print(f"{check:>2} {what}: {said}" + (f" [{family}]" if family else ""), flush=True)
+    found = sum(1 for _, _, family in results if family)
+    minutes = (time.monotonic() - begun) / 60
+    print(f"faults: {found} of {len(results)} found, {minutes:.1f} minutes")
+    if words.table:
+        date = datetime.date.today().isoformat()
+        total = f"{found} of {len(results)} found on {date}, in {minutes:.1f} minutes."
+        missed = [f"Not found: {check}, {what}." for check, what, family in results if not family]
+        words.table.write_text("\n".join([*rows(results), "", total, *missed, ""]))
+    sys.exit(found != len(results))
 
 
 main()

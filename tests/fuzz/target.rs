@@ -50,8 +50,8 @@ impl Target {
     pub fn new(report: PathBuf, run: String) -> Target {
         demand3::try_out();
         // They live as long as the program.
-        let bench = Box::leak(Box::new(Bench::new(report)));
-        bench.family(Box::leak(run.into_boxed_str()));
+        let bench = Box::leak(Box::new(Bench::new(report, None)));
+        bench.begins(Box::leak(run.into_boxed_str()));
         Target {
             desk: Desk::new(bench),
             numbers: Default::default(),

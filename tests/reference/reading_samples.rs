@@ -3,6 +3,7 @@
 use super::catalogue::{Count, Line, Status, HEADER, SIGNATURE};
 use super::reading::{printed, read, read_for_c};
 use super::samples::content::{self, bin, strings, words, Content, Item};
+use super::samples::lines;
 use super::*;
 
 type Doses<'a> = &'a [[u32; 2]];
@@ -194,67 +195,22 @@ fn editions() {
 
 // ---- The catalogue against 000's tables ----
 
-/// The lines of these tables, under document 01's exceptions, tags rising.
-fn lines(tables: &[&str], any_count: &[u32]) -> Vec<(u32, u32, Count, bool)> {
-    let mut lines = Vec::new();
-    let mut wanted = false;
-    for text in include_str!("tables.txt").lines() {
-        if let Some(title) = text.strip_prefix("Table ") {
-            wanted = tables
-                .iter()
-                .any(|table| title.starts_with(&format!("{table}.")));
-        }
-        // A blank count may stand behind the status.
-        let words: Vec<&str> = text.split('|').map(str::trim).collect();
-        let Some(tag) = words.get(1).and_then(|word| word.parse().ok()) else {
-            continue;
-        };
-        let ty = match words[2] {
-            "INT16" => 3,
-            "INT32" => 4,
-            "STRING" => 6,
-            "BIN" => 7,
-            "STRING_ARRAY" => 8,
-            "I18NSTRING" => 9,
-            other => panic!("{other}"),
-        };
-        let count = match words[3].parse() {
-            Ok(exact) if !any_count.contains(&tag) => Count::Exactly(exact),
-            _ => Count::Any,
-        };
-        if wanted {
-            lines.push((tag, ty, count, words[3..].contains(&"Required")));
-        }
-    }
-    lines.sort_by_key(|line| line.0);
-    lines
-}
-
 #[test]
 fn catalogue_is_the_papers() {
-    let ours = |lines: &[Line]| -> Vec<_> {
-        let parts = |line: &Line| {
-            (
-                line.tag,
-                line.ty,
-                line.count,
-                line.status == Status::Required,
-            )
+    let ours = |lines: &[Line]| -> Vec<lines::Line> {
+        let plain = |line: &Line| lines::Line {
+            tag: line.tag,
+            ty: line.ty,
+            count: match line.count {
+                Count::Any => None,
+                Count::Exactly(count) => Some(count),
+            },
+            required: line.status == Status::Required,
         };
-        lines.iter().map(parts).collect()
+        lines.iter().map(plain).collect()
     };
-    let mut signature = lines(&["1-4", "1-5", "1-6", "1-7"], &[1002, 1005, 1011, 1012]);
-    // Tag 100 is required in the header only.
-    assert_eq!(signature[2], (100, 8, Count::Any, true));
-    signature[2].3 = false;
-    assert_eq!(ours(&SIGNATURE), signature);
-
-    let tables = ["1-4", "1-8", "1-9", "1-10", "1-11", "1-14"];
-    let mut header = lines(&tables, &[1047, 1114]);
-    header.push((20001, 7, Count::Any, true));
-    header.push((20002, 4, Count::Exactly(1), true));
-    assert_eq!(ours(&HEADER), header);
-
+    assert_eq!(ours(&SIGNATURE), *lines::SIGNATURE);
+    assert_eq!(ours(&HEADER), *lines::HEADER);
     for part in [&SIGNATURE[..], &HEADER] {
         assert!(part.is_sorted_by(|one, next| one.tag < next.tag));
     }

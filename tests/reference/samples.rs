@@ -3,6 +3,8 @@
 #[path = "../compare/content.rs"]
 #[allow(dead_code)]
 pub(super) mod content;
+#[path = "../compare/lines.rs"]
+pub(super) mod lines;
 #[path = "../compare/maker.rs"]
 #[allow(dead_code)]
 pub(super) mod maker;

@@ -1,9 +1,8 @@
 //! Contents of many shapes that edition 2 accepts, if it accepts the book.
 
-use reference::catalogue::{self, Count, Line, Status};
-
 use super::books::Book;
 use crate::content::*;
+use crate::lines::{self, Line};
 use crate::maker::size_of;
 use crate::random::Random;
 use crate::shapes::{free_lead, LAWFUL};
@@ -48,7 +47,7 @@ impl Plan {
             1080..=1082 => self.led[4],
             1023..=1026 => usize::from(self.scripts[line.tag as usize - 1023] == 1),
             1085..=1088 => usize::from(self.scripts[line.tag as usize - 1085] != 0),
-            _ if line.status != Status::Required && random.one_in(2) => 0,
+            _ if !line.required && random.one_in(2) => 0,
             _ => any_count(random, line),
         }
     }
@@ -57,9 +56,9 @@ impl Plan {
 /// A count that the line takes.
 pub fn any_count(random: &mut Random, line: &Line) -> usize {
     match line.count {
-        Count::Exactly(count) => count as usize,
-        Count::Any if line.ty == 7 => random.pick(&[1, 2, 16, 65, 152]),
-        Count::Any => 1 + random.below(4),
+        Some(count) => count as usize,
+        None if line.ty == 7 => random.pick(&[1, 2, 16, 65, 152]),
+        None => 1 + random.below(4),
     }
 }
 
@@ -132,15 +131,15 @@ pub fn add_free(random: &mut Random, content: &mut Content, structure: usize, co
 pub fn content(random: &mut Random, book: &Book) -> Content {
     let plan = Plan::any(random);
     let mut header = Vec::new();
-    for line in &catalogue::HEADER {
+    for line in lines::HEADER.iter() {
         let count = plan.count(random, line);
         if count > 0 {
             header.push(right_item(random, line, count, plan.directories));
         }
     }
     let mut signature = vec![words(1000, &[0])];
-    for line in &catalogue::SIGNATURE {
-        let present = line.status == Status::Required || random.one_in(2);
+    for line in lines::SIGNATURE.iter() {
+        let present = line.required || random.one_in(2);
         if present && line.tag != 1000 {
             let count = any_count(random, line);
             signature.push(item(random, line.tag, line.ty, count));

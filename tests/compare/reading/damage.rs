@@ -1,12 +1,11 @@
 //! One damage for each of checks 14 to 18 and 23 and each place, with the answer
 //! it must get.
 
-use reference::catalogue::{self, Count, Line, Status};
-
 use super::accepted::{any_count, item, right_item};
 use super::books::Book;
 use super::desk::Outcome;
 use crate::content::*;
+use crate::lines::{self, Line};
 use crate::random::Random;
 use crate::shapes::LAWFUL;
 
@@ -140,10 +139,10 @@ pub fn all(content: &Content, random: &mut Random) -> Vec<Damage> {
         content,
         damages: Vec::new(),
     };
-    for line in &catalogue::SIGNATURE {
+    for line in lines::SIGNATURE.iter() {
         of_line(&mut list, random, SIGNATURE, line);
     }
-    for line in &catalogue::HEADER {
+    for line in lines::HEADER.iter() {
         of_line(&mut list, random, HEADER, line);
     }
     size(&mut list);
@@ -159,7 +158,7 @@ pub fn all(content: &Content, random: &mut Random) -> Vec<Damage> {
 }
 
 fn line(tag: u32) -> &'static Line {
-    let line = catalogue::HEADER.iter().find(|line| line.tag == tag);
+    let line = lines::HEADER.iter().find(|line| line.tag == tag);
     line.expect("a line")
 }
 
@@ -172,7 +171,7 @@ fn put(random: &mut Random, tag: u32, count: usize) -> Edit {
 fn of_line(list: &mut List, random: &mut Random, structure: usize, line: &Line) {
     let tag = line.tag;
     let order = (14, (structure as u32) << 20 | tag);
-    if line.status == Status::Required {
+    if line.required {
         let edits = vec![Edit::Remove(structure, tag)];
         list.add("required tag absent", order, (14, tag), edits);
     }
@@ -190,7 +189,7 @@ fn of_line(list: &mut List, random: &mut Random, structure: usize, line: &Line) 
         }
     }
     // Another count of type 6 or 9 is check 10.
-    if let (Count::Exactly(exact), 4 | 7) = (line.count, line.ty) {
+    if let (Some(exact), 4 | 7) = (line.count, line.ty) {
         let exact = exact as usize;
         for count in [exact - 1, exact + 1, 2 * exact, 2 * exact + 1, 256 + exact] {
             if count > 0 {
@@ -350,7 +349,7 @@ const LED: [(u32, [u32; 2]); 5] = [
 
 fn led(list: &mut List, random: &mut Random, group: u32, leader: u32, others: [u32; 2]) {
     let [flags, versions] = others;
-    let required = line(leader).status == Status::Required;
+    let required = line(leader).required;
     let tags = [leader, flags, versions];
     let mut counts = |what, random: &mut Random, place, counts: [usize; 3]| {
         let edit = |(tag, count)| match count {

@@ -55,7 +55,7 @@ impl<'a> Desk<'a> {
         Desk {
             bench,
             fence: Fence::new(),
-            noise: Random::new(7).bytes(1 << 17),
+            noise: Random::new(7).bytes(1 << 19),
             readings: 0,
             note: "no note",
         }

@@ -14,24 +14,24 @@ use crate::questions::EXTREMES;
 use crate::random::Random;
 use crate::real;
 
-/// All families, in the order in which they run.
-pub const ALL: [fn(&mut Desk, &mut Random); 16] = [
-    accepted,
-    many_records,
-    sizes,
-    editions,
-    rooms,
-    each_damage,
-    pairs_of_damages,
-    damaged_twice,
-    damaged_structures,
-    cuts,
-    kinds,
-    wrong_records,
-    book_lengths,
-    any_books,
-    changed_bytes,
-    extreme_fields,
+/// All families with their names, in the order in which they run.
+pub const ALL: [(&str, fn(&mut Desk, &mut Random)); 16] = [
+    ("accepted packages", accepted),
+    ("accepted packages of many records", many_records),
+    ("sizes of accepted packages", sizes),
+    ("editions", editions),
+    ("dose buffers", rooms),
+    ("one damage to an accepted package", each_damage),
+    ("two damages to an accepted package", pairs_of_damages),
+    ("damaged in structure and content", damaged_twice),
+    ("damaged structures", damaged_structures),
+    ("cut packages", cuts),
+    ("kinds", kinds),
+    ("oxides and milligrams", wrong_records),
+    ("lengths of books", book_lengths),
+    ("random books", any_books),
+    ("changed bytes", changed_bytes),
+    ("extreme words", extreme_fields),
 ];
 
 #[rustfmt::skip]
@@ -53,7 +53,6 @@ fn refused(number: u32, place: usize) -> [Outcome; 2] {
 }
 
 fn accepted(desk: &mut Desk, random: &mut Random) {
-    desk.bench.family("accepted packages");
     for _ in 0..6000 {
         let (content, book) = any(random);
         desk.case(random, &content.bytes(), &book.known);
@@ -61,7 +60,6 @@ fn accepted(desk: &mut Desk, random: &mut Random) {
 }
 
 fn many_records(desk: &mut Desk, random: &mut Random) {
-    desk.bench.family("accepted packages of many records");
     for records in [64, 127, 128, 129, 255, 256, 257, 511, 512] {
         for [signature, header] in [[0, records], [records, 0], [records, records]] {
             let (mut content, book) = any(random);
@@ -92,7 +90,6 @@ fn many_records(desk: &mut Desk, random: &mut Random) {
 
 /// Payloads up to the largest package, and over it.
 fn sizes(desk: &mut Desk, random: &mut Random) {
-    desk.bench.family("sizes of accepted packages");
     for size in [65_535, 65_536, 65_537, 65_540, 131_072, ROOM] {
         let (mut content, book) = any(random);
         let rest = size - content.bytes().len();
@@ -109,7 +106,6 @@ fn sizes(desk: &mut Desk, random: &mut Random) {
 
 /// Editions that aren't: 1 at 0, whatever the package.
 fn editions(desk: &mut Desk, random: &mut Random) {
-    desk.bench.family("editions");
     let one = Err((1, 0));
     for _ in 0..100 {
         let (content, _) = any(random);
@@ -131,7 +127,6 @@ fn editions(desk: &mut Desk, random: &mut Random) {
 
 /// Every buffer length around what is needed, and much more.
 fn rooms(desk: &mut Desk, random: &mut Random) {
-    desk.bench.family("dose buffers");
     for round in 0..120 {
         let doses = match round {
             0..=9 => round,
@@ -155,14 +150,23 @@ fn rooms(desk: &mut Desk, random: &mut Random) {
         for room in needed.saturating_sub(13)..needed + 14 {
             desk.both(room, Some(&book.known));
         }
-        for room in (0..13).chain([needed / 2, 2 * needed, 2 * needed + 1, 9999, 100_000]) {
+        // 65,536 bytes and 65,536 numbers: the low 16 bits of the length are zero.
+        let large = [
+            needed / 2,
+            2 * needed,
+            2 * needed + 1,
+            9999,
+            65_536,
+            100_000,
+            1 << 18,
+        ];
+        for room in (0..13).chain(large) {
             desk.both(room, Some(&book.known));
         }
     }
 }
 
 fn each_damage(desk: &mut Desk, random: &mut Random) {
-    desk.bench.family("one damage to an accepted package");
     for _ in 0..30 {
         let (right, book) = any(random);
         for damage in damage::all(&right, random) {
@@ -178,7 +182,6 @@ fn each_damage(desk: &mut Desk, random: &mut Random) {
 /// Two damages, of neighbouring rules or of any two, and perhaps a wrong book: the
 /// first check decides.
 fn pairs_of_damages(desk: &mut Desk, random: &mut Random) {
-    desk.bench.family("two damages to an accepted package");
     for round in 0..40 {
         let mut book = match round % 4 {
             0 => any_book(random),
@@ -213,7 +216,6 @@ fn pairs_of_damages(desk: &mut Desk, random: &mut Random) {
 
 /// Checks 2 to 13 go before those on contents.
 fn damaged_twice(desk: &mut Desk, random: &mut Random) {
-    desk.bench.family("damaged in structure and content");
     for _ in 0..100 {
         let (mut content, _) = any(random);
         let damages = damage::all(&content, random);
@@ -231,7 +233,6 @@ fn damaged_twice(desk: &mut Desk, random: &mut Random) {
 
 /// Checks 4 and 6 to 13 on packages that are accepted otherwise.
 fn damaged_structures(desk: &mut Desk, random: &mut Random) {
-    desk.bench.family("damaged structures");
     for _ in 0..12 {
         let (content, _) = any(random);
         let package = content.package();
@@ -247,7 +248,6 @@ fn damaged_structures(desk: &mut Desk, random: &mut Random) {
 
 /// Cut at every length: checks 3, 5, 8, and 16 in the payload.
 fn cuts(desk: &mut Desk, random: &mut Random) {
-    desk.bench.family("cut packages");
     for _ in 0..3 {
         let (content, book) = any(random);
         let package = content.package();
@@ -272,7 +272,6 @@ fn read_book(desk: &mut Desk, random: &mut Random, book: &Book) {
 /// Every kind byte, with a body of every length around its own, alone and
 /// behind other records.
 fn kinds(desk: &mut Desk, random: &mut Random) {
-    desk.bench.family("kinds");
     let (page, date) = ([0, 7], [1, 2, 3, 4]);
     let cobalt = dose(27, 1250);
     let fronts: [&[(u8, &[u8])]; 4] = [
@@ -283,13 +282,22 @@ fn kinds(desk: &mut Desk, random: &mut Random) {
     ];
     for front in fronts {
         for kind in 0..=255 {
-            let mut body = random.bytes(length(kind));
-            if body.len() >= 6 {
-                body[..6].copy_from_slice(&cobalt);
-            }
+            let with_dose = |mut body: Vec<u8>| {
+                if body.len() >= 6 {
+                    body[..6].copy_from_slice(&cobalt);
+                }
+                body
+            };
+            let body = with_dose(random.bytes(length(kind)));
             for cut in 0..body.len() {
                 let mut book = Book::of(front);
                 book.record(kind, &body[..cut]);
+                read_book(desk, random, &book);
+            }
+            // What else stands in a body is free.
+            for byte in [0x00, 0xFF] {
+                let mut book = Book::of(front);
+                book.record(kind, &with_dose(vec![byte; length(kind)]));
                 read_book(desk, random, &book);
             }
             for after in [None, Some(0x00), Some(0x86), Some(0x80), Some(0x02)] {
@@ -308,7 +316,6 @@ fn kinds(desk: &mut Desk, random: &mut Random) {
 
 /// Oxides and milligrams around their limits, at every record of a book.
 fn wrong_records(desk: &mut Desk, random: &mut Random) {
-    desk.bench.family("oxides and milligrams");
     let oxides = [0, 1, 255, 256, 999, 1000, 1001, 1024, 1255, 32_768, 65_535];
     #[rustfmt::skip]
     let milligrams = [
@@ -335,7 +342,6 @@ fn wrong_records(desk: &mut Desk, random: &mut Random) {
 
 /// Books around 4,096 bytes, and larger; the largest sums.
 fn book_lengths(desk: &mut Desk, random: &mut Random) {
-    desk.bench.family("lengths of books");
     let most = dose(999, 5_000_000);
     for size in [
         4000, 4094, 4095, 4096, 4097, 4098, 4103, 5000, 8192, 40_000, 60_000,
@@ -395,7 +401,6 @@ fn any_book(random: &mut Random) -> Book {
 }
 
 fn any_books(desk: &mut Desk, random: &mut Random) {
-    desk.bench.family("random books");
     for _ in 0..10_000 {
         let book = any_book(random);
         let mut content = Content::least(&book.bytes, book.weight());
@@ -426,7 +431,6 @@ fn any_books(desk: &mut Desk, random: &mut Random) {
 
 /// Accepted packages with some bytes changed; items of other packages put in.
 fn changed_bytes(desk: &mut Desk, random: &mut Random) {
-    desk.bench.family("changed bytes");
     for _ in 0..800 {
         let (right, _) = any(random);
         let bytes = right.bytes();
@@ -452,7 +456,6 @@ fn changed_bytes(desk: &mut Desk, random: &mut Random) {
 
 /// Extreme numbers in each word of an accepted package.
 fn extreme_fields(desk: &mut Desk, random: &mut Random) {
-    desk.bench.family("extreme words");
     for _ in 0..6 {
         let (content, _) = any(random);
         let right = content.bytes();
@@ -470,7 +473,6 @@ fn extreme_fields(desk: &mut Desk, random: &mut Random) {
 
 /// The packages in tests/data, whole and with bytes changed.
 pub fn other_writers(desk: &mut Desk, random: &mut Random, data: &Path) {
-    desk.bench.family("reading packages of other writers");
     for file in real::files(data) {
         let name = file.file_name().and_then(|name| name.to_str()).unwrap();
         let known = match name {

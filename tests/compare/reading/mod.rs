@@ -17,8 +17,12 @@ use desk::Desk;
 pub fn all(bench: &mut Bench, data: &Path) {
     demand3::try_out();
     let mut desk = Desk::new(bench);
-    for (seed, family) in families::ALL.iter().enumerate() {
-        family(&mut desk, &mut Random::new(100 + seed as u64));
+    for (seed, (name, family)) in families::ALL.iter().enumerate() {
+        if desk.bench.begins(name) {
+            family(&mut desk, &mut Random::new(100 + seed as u64));
+        }
     }
-    families::other_writers(&mut desk, &mut Random::new(199), data);
+    if desk.bench.begins("reading packages of other writers") {
+        families::other_writers(&mut desk, &mut Random::new(199), data);
+    }
 }
