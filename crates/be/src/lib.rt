@@ -28,7 +28,7 @@ pub fn join32(a: u8, b: u8, c: u8, d: u8) -> u32
     a as u32 * 16777216 + b as u32 * 65536 + c as u32 * 256 + d as u32
 }
 
-// The 16-bit number at a place of which the slice may end.
+// The 16-bit number at a place, in a slice that may end inside it.
 fn be16_cut(s: &[u8], at: usize) -> u16
     ensures { λ r. ⌜ r ≡ be16At (now (s .entry)) at ⌝ }
 {
@@ -52,7 +52,7 @@ pub fn be16(s: &[u8], at: usize) -> u16
     join16(s[at], s[at + 1])
 }
 
-// The 32-bit number at a place of which the slice may end.
+// The 32-bit number at a place, in a slice that may end inside it.
 fn be32_cut(s: &[u8], at: usize) -> u32
     ensures { λ r. ⌜ r ≡ be32At (now (s .entry)) at ⌝ }
 {

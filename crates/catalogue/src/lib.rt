@@ -73,7 +73,7 @@ impl Line {
     }
 }
 
-// The whole catalogue, a line to each four numbers.
+// The whole catalogue, four numbers to a line.
 pub fn table() -> [[u32; 4]; Line::ALL]
     ensures { λ r. ⌜ r ≡ catalogue ⌝ }
 {
