@@ -79,6 +79,69 @@ module _ (s : List ℕ) where
     pub next-spent : stop ≤ i → i ≡ v
     next-spent l = let e : stop - i ≡ 0 = omega arith in sym (inv ∙ rw e (next-none i))
 
+  -- a few bytes one by one
+  pub first-here : (n at : ℕ) → getD s at 0 ≡ 0 → at ≡ nextZero s (suc n) at
+  first-here n at h = sym (next-here n at h)
+
+  pub first-later : (n at : ℕ) {v : ℕ} → (getD s at 0 ≡ 0 → ⊥) → v ≡ nextZero s n (at + 1) → v ≡ nextZero s (suc n) at
+  first-later n at h k = k ∙ sym (next-later n at h)
+
+  pub first-none : (at : ℕ) → at ≡ nextZero s 0 at
+  first-none at = sym (next-none at)
+
+  pub behind-here : (n k at : ℕ) → getD s (at + k) 0 ≡ 0 → at + k ≡ nextZero s (suc n) (at + k)
+  behind-here n k at h = first-here n (at + k) h
+
+  pub behind-later : (n k at : ℕ) {v : ℕ} → (getD s (at + k) 0 ≡ 0 → ⊥) → v ≡ nextZero s n (at + suc k)
+      → v ≡ nextZero s (suc n) (at + k)
+  behind-later n k at h j = let e : at + suc k ≡ at + k + 1 = omega arith in first-later n (at + k) h (rw e at j)
+
+  -- k bytes, then the rest
+  next-in : (k room at : ℕ) → nextZero s k at < at + k → nextZero s (k + room) at ≡ nextZero s k at
+  next-in zero room at l = absurd (omega (arith, next-none at))
+  next-in (suc k) room at l =
+      let e : suc k + room ≡ suc (k + room) = omega arith in
+      rw e (go (eqb (getD s at 0) 0) refl (next-in k room (at + 1)))
+    where
+      go : (b : Bool) → eqb (getD s at 0) 0 ≡ b
+          → (nextZero s k (at + 1) < at + 1 + k → nextZero s (k + room) (at + 1) ≡ nextZero s k (at + 1))
+          → nextZero s (suc (k + room)) at ≡ nextZero s (suc k) at
+      go true t f = next-here (k + room) at (eqb-true _ _ t) ∙ sym (next-here k at (eqb-true _ _ t))
+      go false t f =
+          let p = next-later k at (eqb-false _ _ t) in
+          next-later (k + room) at (eqb-false _ _ t) ∙ f (omega arith) ∙ sym p
+
+  next-behind : (k room at : ℕ) → at + k ≤ nextZero s k at → nextZero s (k + room) at ≡ nextZero s room (at + k)
+  next-behind zero room at l = let e : 0 + room ≡ room = omega arith in let f : at + 0 ≡ at = omega arith in rw (e, f)
+  next-behind (suc k) room at l =
+      let e : suc k + room ≡ suc (k + room) = omega arith in
+      let f : at + suc k ≡ at + 1 + k = omega arith in
+      rw (e, f) (go (eqb (getD s at 0) 0) refl (next-behind k room (at + 1)))
+    where
+      go : (b : Bool) → eqb (getD s at 0) 0 ≡ b
+          → (at + 1 + k ≤ nextZero s k (at + 1) → nextZero s (k + room) (at + 1) ≡ nextZero s room (at + 1 + k))
+          → nextZero s (suc (k + room)) at ≡ nextZero s room (at + 1 + k)
+      go true t f = absurd (omega (arith, next-here k at (eqb-true _ _ t)))
+      go false t f =
+          let p = next-later k at (eqb-false _ _ t) in
+          next-later (k + room) at (eqb-false _ _ t) ∙ f (omega arith)
+
+  -- a turn of eight bytes: v is what the search began with, z the first zero byte of the eight
+  module _ (stop i : ℕ) {v z : ℕ} (inv : v ≡ nextZero s (stop - i) i) (q : z ≡ nextZero s 8 i) (m : 8 ≤ stop)
+      (l : i ≤ stop - 8) where
+    pub eight-turn : i + 8 ≤ z → v ≡ nextZero s (stop - (i + 8)) (i + 8)
+    eight-turn h =
+        let e : stop - i ≡ 8 + (stop - (i + 8)) = omega arith in
+        inv ∙ rw e (next-behind 8 (stop - (i + 8)) i (omega arith))
+
+    pub eight-ends : z < i + 8 → z ≡ v
+    eight-ends h =
+        let e : stop - i ≡ 8 + (stop - (i + 8)) = omega arith in
+        sym (inv ∙ rw e (next-in 8 (stop - (i + 8)) i (omega arith)) ∙ sym q)
+
+  pub resumed : (stop i : ℕ) {v r : ℕ} → v ≡ nextZero s (stop - i) i → r ≡ nextZero s (stop - i) i → r ≡ v
+  resumed stop i inv q = q ∙ sym inv
+
   next-within : (room at : ℕ) → (at ≤ nextZero s room at) × (nextZero s room at ≤ at + room)
   next-within zero at = omega (arith, next-none at)
   next-within (suc room) at = go (eqb (getD s at 0) 0) refl (next-within room (at + 1))

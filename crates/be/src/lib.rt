@@ -15,7 +15,7 @@ pub fn byte_at(s: &[u8], at: usize) -> u8
 }
 
 // The number of two bytes, the high one first.
-fn join16(a: u8, b: u8) -> u16
+pub fn join16(a: u8, b: u8) -> u16
     ensures { λ r. ⌜ r ≡ a * 256 + b ⌝ }
 {
     a as u16 * 256 + b as u16
@@ -128,8 +128,40 @@ fn stop_before(s: &[u8], end: usize) -> usize
     if s.len() < end { s.len() } else { end }
 }
 
+// The place of the first zero byte of eight; the place behind them where there is none.
+fn zero_of_8(s: &[u8], at: usize) -> usize
+    requires { ⌜ at + 8 ≤ length (now s) ⌝ }
+    ensures { λ r. ⌜ r ≡ nextZero (now (s .entry)) 8 at ⌝ }
+{
+    if s[at] == 0 {
+        return at;
+    }
+    if s[at + 1] == 0 {
+        return at + 1;
+    }
+    if s[at + 2] == 0 {
+        return at + 2;
+    }
+    if s[at + 3] == 0 {
+        return at + 3;
+    }
+    if s[at + 4] == 0 {
+        return at + 4;
+    }
+    if s[at + 5] == 0 {
+        return at + 5;
+    }
+    if s[at + 6] == 0 {
+        return at + 6;
+    }
+    if s[at + 7] == 0 {
+        return at + 7;
+    }
+    at + 8
+}
+
 // The place of the first zero byte from `at`, before `stop`; `stop` where there is none, or `at` behind it.
-fn next_zero(s: &[u8], at: usize, stop: usize) -> usize
+fn next_zero_near(s: &[u8], at: usize, stop: usize) -> usize
     requires { ⌜ stop ≤ length (now s) ⌝ }
     ensures { λ r. ⌜ r ≡ nextZero (now (s .entry)) (stop - at) at ⌝ }
 {
@@ -141,6 +173,26 @@ fn next_zero(s: &[u8], at: usize, stop: usize) -> usize
         i += 1;
     }
     i
+}
+
+// The same, eight bytes at a time while there is room.
+fn next_zero(s: &[u8], at: usize, stop: usize) -> usize
+    requires { ⌜ stop ≤ length (now s) ⌝ }
+    ensures { λ r. ⌜ r ≡ nextZero (now (s .entry)) (stop - at) at ⌝ }
+{
+    if stop < 8 {
+        return next_zero_near(s, at, stop);
+    }
+    let last = stop - 8;
+    let mut i = at;
+    while i <= last {
+        let zero = zero_of_8(s, i);
+        i += 8;
+        if zero < i {
+            return zero;
+        }
+    }
+    next_zero_near(s, i, stop)
 }
 
 // The place behind `count` empty strings from `at`, all before `end`.

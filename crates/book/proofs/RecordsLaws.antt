@@ -1,19 +1,21 @@
 -- Laws of the walk over a book's records, for each way through a turn: of its doses (weighed, remark, no-doses), of its
 -- checks (turn, ends), of the count and the sum (counted, summed, skipped), and of all where it ends (spent).
-use Prim.Native.Nat.{ℕ, _+_, _-_, _≤_, _<_}
+use Prim.Native.Nat.{ℕ, _+_, _-_, _%_, _≤_, _<_}
 use mathlib.Core.Path.{_≡_, refl, sym, ap, _∙_}
 use mathlib.Core.List.{List, [], _∷_}
-use mathlib.Core.Bool.{Bool, true, false, cond}
+use mathlib.Core.Bool.{Bool, true, false, cond, not, _&&_, _||_}
+use lib.Dec.{eqb, leb}
+use borrow.Author.Tests.{le-leb, lt-leb, leb-true, eqb-true, not-true, not-false}
 use lib.ListN.{length}
 use native.Mathlib.Omega.{arith}
 use Rattle.format.specs.declared.verdict.Verdict.{Verdict}
 use Rattle.format.specs.declared.verdict.Verdict.the-variants.{Pass, Fail}
-use Rattle.format.specs.Verdicts.{both}
+use Rattle.format.specs.Verdicts.{both, check}
 use Rattle.format.proofs.VerdictLaws.{both-pass, both-fail}
 use Rattle.book.specs.declared.dose.Dose.{Dose}
 use Rattle.book.specs.declared.Weighed.the-variants.{Doses, Unsound}
-use Rattle.book.specs.Kinds.{isWeighed}
-use Rattle.book.specs.Book.{kindAt, recordEnd, placesFrom, doseAt, recordCheck, recordsCheck}
+use Rattle.book.specs.Kinds.{isWeighed, isBare, isKnown}
+use Rattle.book.specs.Book.{kindAt, recordEnd, placesFrom, doseAt, bodyFits, doseLawful, recordCheck, recordsCheck}
 use Rattle.book.specs.Doses.{dosesOf, sumOf, weighedAs}
 use Rattle.book.proofs.PlaceLaws.{first, none}
 
@@ -34,6 +36,20 @@ check-step known b rest at = refl
 check-nil : (known : ℕ → Bool) (b : List ℕ) → recordsCheck known b [] ≡ Pass
 unfolding recordsCheck
 check-nil known b = refl
+
+-- a weighed kind that is known has a body of six bytes or more
+six : (edition kind : ℕ) → isWeighed kind ≡ true → isKnown edition kind ≡ true → 6 ≤ kind % 16
+unfolding isKnown
+six edition kind h k = go (eqb kind 0x02) (eqb kind 0x86) (eqb kind 0x14) (eqb kind 0x98) refl refl refl refl k
+  where
+    go : (p q r t : Bool) → eqb kind 0x02 ≡ p → eqb kind 0x86 ≡ q → eqb kind 0x14 ≡ r → eqb kind 0x98 ≡ t
+        → ((p && leb 1 edition) || (q && leb 1 edition) || (r && leb 2 edition) || (t && leb 2 edition)) ≡ true
+        → 6 ≤ kind % 16
+    go true q r t a b c d z = let w = leb-true 128 kind h in let e = eqb-true kind 0x02 a in absurd (omega arith)
+    go false true r t a b c d z = rw (eqb-true kind 0x86 b) (omega arith)
+    go false false true t a b c d z = let w = leb-true 128 kind h in let e = eqb-true kind 0x14 c in absurd (omega arith)
+    go false false false true a b c d z = rw (eqb-true kind 0x98 d) (omega arith)
+    go false false false false a b c d z = let y : _≡_ {A = ℕ} 0 1 = cc in absurd (omega arith)
 
 -- w says whether the record is weighed, and end is where the next one starts
 module _ (b : List ℕ) (at : ℕ) (l : at < length b) {end : ℕ} (e : end ≡ recordEnd b at) where
@@ -93,3 +109,84 @@ spent known b at count sum {n = n} {m = m} p q r h =
     let n-eq : n ≡ count = omega arith in
     let m-eq : m ≡ sum = omega arith in
     rw (p ∙ ap (recordsCheck known b) (none b _ at h) ∙ check-nil known b, n-eq, m-eq)
+
+-- checks 20 to 22 of one record, in the shape of what is known in a turn: w says whether it is weighed, end is where the next
+-- one starts, x what the checks of all came to
+module _ (edition : ℕ) (b : List ℕ) (at : ℕ) (l : at < length b) {end : ℕ} (e : end ≡ recordEnd b at) {w : Bool}
+    (h : w ≡ isWeighed (kindAt b at)) {x : Verdict}
+    (inv : x ≡ recordsCheck (isKnown edition) b (placesFrom b (length b - at) at)) where
+  fits : end ≤ length b → bodyFits b at ≡ true
+  fits m = le-leb (recordEnd b at) (length b) (omega arith)
+
+  past : length b < end → bodyFits b at ≡ false
+  past m = lt-leb (recordEnd b at) (length b) (omega arith)
+
+  module _ (t : w ≡ false) where
+    pub remark-past : length b < end → (count sum : ℕ) → Unsound 21 at ≡ weighedAs x count sum
+    unfolding recordCheck check
+    remark-past m count sum = ends (isKnown edition) b at l {v = Fail 21 at} (rw (sym h ∙ t, past m)) inv count sum refl
+
+    pub remark-turn : end ≤ length b → x ≡ recordsCheck (isKnown edition) b (placesFrom b (length b - end) end)
+    unfolding recordCheck check
+    remark-turn m = turn (isKnown edition) b at l {v = Pass} (rw (sym h ∙ t, fits m)) inv e refl
+
+  module _ (t : w ≡ true) {k : Bool} (g : k ≡ isKnown edition (kindAt b at)) where
+    pub unknown : not k ≡ true → (count sum : ℕ) → Unsound 20 at ≡ weighedAs x count sum
+    unfolding recordCheck check
+    unknown n count sum = ends (isKnown edition) b at l {v = Fail 20 at} (rw (sym h ∙ t, sym g ∙ not-true k n)) inv count sum refl
+
+    module _ (n : not k ≡ false) where
+      pub weighed-past : length b < end → (count sum : ℕ) → Unsound 21 at ≡ weighedAs x count sum
+      unfolding recordCheck check
+      weighed-past m count sum =
+          ends (isKnown edition) b at l {v = Fail 21 at} (rw (sym h ∙ t, sym g ∙ not-false k n, past m)) inv count sum refl
+
+      pub within-book : end ≤ length b → at + 7 ≤ length b
+      within-book m =
+          let q = six edition (kindAt b at) (sym h ∙ t) (sym g ∙ not-false k n) in
+          omega arith
+
+      module _ (m : end ≤ length b) {dose : Dose} (d : dose ≡ doseAt b at) {o : Bool} (u : o ≡ doseLawful dose) where
+        lawful : doseLawful (doseAt b at) ≡ o
+        lawful = sym (u ∙ ap doseLawful d)
+
+        pub unlawful : not o ≡ true → (count sum : ℕ) → Unsound 22 at ≡ weighedAs x count sum
+        unfolding recordCheck check
+        unlawful z count sum =
+            ends (isKnown edition) b at l {v = Fail 22 at}
+            (rw (sym h ∙ t, sym g ∙ not-false k n, fits m, lawful ∙ not-true o z)) inv count sum refl
+
+        pub weighed-turn : not o ≡ false → x ≡ recordsCheck (isKnown edition) b (placesFrom b (length b - end) end)
+        unfolding recordCheck check
+        weighed-turn z =
+            turn (isKnown edition) b at l {v = Pass}
+            (rw (sym h ∙ t, sym g ∙ not-false k n, fits m, lawful ∙ not-false o z)) inv e refl
+
+-- a remark without a body
+bare-parts : (kind : ℕ) → isBare kind ≡ true → (isWeighed kind ≡ false) × (kind % 16 ≡ 0)
+bare-parts kind h = go (isWeighed kind) refl h
+  where
+    go : (w : Bool) → isWeighed kind ≡ w → cond w false (eqb (kind % 16) 0) ≡ true → (isWeighed kind ≡ false) × (kind % 16 ≡ 0)
+    go true e t = let z : _≡_ {A = ℕ} 0 1 = cc in absurd (omega arith)
+    go false e t = (e, eqb-true (kind % 16) 0 t)
+
+module _ (b : List ℕ) (at : ℕ) (l : at < length b) {r : Bool} (h : r ≡ isBare (kindAt b at)) (t : r ≡ true) where
+  bare-end : at + 1 ≡ recordEnd b at
+  bare-end = let k = bare-parts (kindAt b at) (sym h ∙ t) .1 in omega arith
+
+  pub bare-turn : (edition : ℕ) {x : Verdict} → x ≡ recordsCheck (isKnown edition) b (placesFrom b (length b - at) at)
+      → x ≡ recordsCheck (isKnown edition) b (placesFrom b (length b - (at + 1)) (at + 1))
+  bare-turn edition inv =
+      remark-turn edition b at l bare-end {w = false} (sym (bare-parts (kindAt b at) (sym h ∙ t) .0)) inv refl (omega arith)
+
+pub bare-skipped : (f : List Dose → ℕ) (b : List ℕ) (at : ℕ) → at < length b → {r : Bool} → r ≡ isBare (kindAt b at) → r ≡ true
+    → (sofar : ℕ) {n : ℕ} → n ≡ sofar + f (dosesOf b (placesFrom b (length b - at) at))
+    → n ≡ sofar + f (dosesOf b (placesFrom b (length b - (at + 1)) (at + 1)))
+bare-skipped f b at l h t sofar inv =
+    skipped f b at l (bare-end b at l h t) {w = false} (sym (bare-parts (kindAt b at) (sym h ∙ t) .0)) refl sofar inv
+
+pub bare-not : (kind : ℕ) {w : Bool} → w ≡ isWeighed kind → w ≡ true → false ≡ isBare kind
+bare-not kind h t = rw (sym h ∙ t)
+
+pub bare-by : (kind : ℕ) {w : Bool} → w ≡ isWeighed kind → w ≡ false → eqb (kind % 16) 0 ≡ isBare kind
+bare-by kind h t = rw (sym h ∙ t)

@@ -1,6 +1,6 @@
 -- Document 01, "Book": the table of kinds.
 use Prim.Native.Nat.{ℕ, _%_}
-use mathlib.Core.Bool.{Bool, _&&_, _||_}
+use mathlib.Core.Bool.{Bool, _&&_, _||_, false, cond}
 use lib.Dec.{eqb, leb}
 
 -- kinds 128 and above are weighed, those below are remarks
@@ -10,6 +10,10 @@ isWeighed kind = leb 128 kind
 -- the body of a kind is kind mod 16 bytes
 abbrev pub bodySize : ℕ → ℕ
 bodySize kind = kind % 16
+
+-- a remark without a body
+abbrev pub isBare : ℕ → Bool
+isBare kind = cond (isWeighed kind) false (eqb (bodySize kind) 0)
 
 -- | 02 | page, 2 | 1 |
 -- | 86 | oxide 2, milligrams 4 | 1 |

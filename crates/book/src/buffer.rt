@@ -85,6 +85,12 @@ fn put_dose_bytes(out: &mut [u8], i: usize, dose: Dose)
     requires { ⌜ i + 8 < 2 ^ 64 ⌝ }
     ensures { λ r. ⌜ now (out .exit) ≡ sets (now (out .entry)) i (numberBytes (numbersOf (dose ∷ []))) ⌝ }
 {
+    let end = i + 8;
+    if end <= out.len() {
+        put_whole(out, i, dose.oxide.0 as u32);
+        put_whole(out, i + 4, dose.milligrams.0);
+        return;
+    }
     put_number(out, i, dose.oxide.0 as u32);
     put_number(out, i + 4, dose.milligrams.0);
 }

@@ -1,5 +1,7 @@
 // A dose: an oxide and its weight.
 ghost use mathlib.Core.Path.{_≡_};
+ghost use Prim.Native.Nat.{_+_, _≤_};
+ghost use lib.ListN.{length};
 ghost use Rattle.book.specs.Book.{doseAt, doseLawful};
 
 // An oxide's code.
@@ -24,7 +26,13 @@ impl Dose {
     pub fn at(book: &[u8], at: usize) -> Self
         ensures { λ r. ⌜ r ≡ doseAt (now (book .entry)) at ⌝ }
     {
-        if book.len() <= at {
+        let len = book.len();
+        if 7 <= len {
+            if at <= len - 7 {
+                return Self::within(book, at);
+            }
+        }
+        if len <= at {
             return Self {
                 oxide: Oxide(0),
                 milligrams: Milligrams(0),
@@ -33,6 +41,21 @@ impl Dose {
         Self {
             oxide: Oxide(be::be16(book, at + Self::OXIDE)),
             milligrams: Milligrams(be::be32(book, at + Self::MILLIGRAMS)),
+        }
+    }
+
+    // The same where the book has it whole.
+    pub(crate) fn within(book: &[u8], at: usize) -> Self
+        requires { ⌜ at + 7 ≤ length (now book) ⌝ }
+        ensures { λ r. ⌜ r ≡ doseAt (now (book .entry)) at ⌝ }
+    {
+        let o = at + Self::OXIDE;
+        let m = at + Self::MILLIGRAMS;
+        Self {
+            oxide: Oxide(be::join16(book[o], book[o + 1])),
+            milligrams: Milligrams(
+                be::join32(book[m], book[m + 1], book[m + 2], book[m + 3]),
+            ),
         }
     }
 

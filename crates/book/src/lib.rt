@@ -2,9 +2,9 @@
 ghost use mathlib.Core.Path.{_≡_};
 ghost use Prim.Native.Nat.{_≤_, _<_};
 ghost use lib.ListN.{length};
-ghost use Rattle.book.specs.Kinds.{isWeighed, isKnown};
-ghost use Rattle.book.specs.Book.{recordEnd, places, doseAt, kindAllowed, bodyFits, weighedRight};
-ghost use Rattle.book.specs.Book.{recordCheck, recordsCheck, lengthCheck};
+ghost use Rattle.book.specs.Kinds.{isWeighed, isBare, isKnown};
+ghost use Rattle.book.specs.Book.{recordEnd, places};
+ghost use Rattle.book.specs.Book.{recordsCheck, lengthCheck};
 ghost use Rattle.book.specs.Doses.{doses, sumOf, weighedAs, weighed};
 
 pub mod buffer;
@@ -59,52 +59,6 @@ fn known(edition: u32, kind: u8) -> bool
     }
 }
 
-// Check 20.
-fn kind_allowed(edition: u32, kind: u8) -> bool
-    ensures { λ r. ⌜ r ≡ kindAllowed (isKnown edition) kind ⌝ }
-{
-    if !is_weighed(kind) {
-        return true;
-    }
-    known(edition, kind)
-}
-
-// Check 21.
-fn body_fits(book: &[u8], at: usize) -> bool
-    requires { ⌜ at < length (now book) ⌝ }
-    ensures { λ r. ⌜ r ≡ bodyFits (now (book .entry)) at ⌝ }
-{
-    record_end(book, at) <= book.len()
-}
-
-// Check 22, for a record whose dose, if it has one, is `dose`.
-fn weighed_right(book: &[u8], at: usize, dose: Dose) -> bool
-    requires { ⌜ (at < length (now book)) × (dose ≡ doseAt (now book) at) ⌝ }
-    ensures { λ r. ⌜ r ≡ weighedRight (now (book .entry)) at ⌝ }
-{
-    if !is_weighed(book[at]) {
-        return true;
-    }
-    dose.lawful()
-}
-
-// Checks 20 to 22 for the record at a place, whose dose, if it has one, is `dose`.
-fn record_check(edition: u32, book: &[u8], at: usize, dose: Dose) -> Verdict
-    requires { ⌜ (at < length (now book)) × (length (now book) ≤ 4096) × (dose ≡ doseAt (now book) at) ⌝ }
-    ensures { λ r. ⌜ r ≡ recordCheck (isKnown edition) (now (book .entry)) at ⌝ }
-{
-    if !kind_allowed(edition, book[at]) {
-        return Verdict::Fail(20, at as u32);
-    }
-    if !body_fits(book, at) {
-        return Verdict::Fail(21, at as u32);
-    }
-    if !weighed_right(book, at, dose) {
-        return Verdict::Fail(22, at as u32);
-    }
-    Verdict::Pass
-}
-
 // Check 19.
 fn length_check(book: &[u8]) -> Verdict
     ensures { λ r. ⌜ r ≡ lengthCheck (now (book .entry)) ⌝ }
@@ -115,26 +69,52 @@ fn length_check(book: &[u8]) -> Verdict
     Verdict::Pass
 }
 
+// Whether a kind is a remark without a body. Such a record is passed without its end being computed from its kind, so
+// that the processor need not wait for the one to find the next.
+fn is_bare(kind: u8) -> bool
+    ensures { λ r. ⌜ r ≡ isBare kind ⌝ }
+{
+    if is_weighed(kind) {
+        return false;
+    }
+    kind % 16 == 0
+}
+
 // Checks 20 to 22 for each record in turn, with the number and the sum of the doses.
 fn records(edition: u32, book: &[u8]) -> Weighed
     requires { ⌜ length (now book) ≤ 4096 ⌝ }
     ensures { λ r. ⌜ r ≡ weighedAs (recordsCheck (isKnown edition) (now (book .entry)) (places (now (book .entry))))
         (length (doses (now (book .entry)))) (sumOf (doses (now (book .entry)))) ⌝ }
 {
+    let len = book.len();
     let mut at = 0;
     let mut count = 0;
     let mut sum: u64 = 0;
-    while at < book.len() {
-        let dose = Dose::at(book, at);
-        let v = record_check(edition, book, at, dose);
-        if let Verdict::Fail(number, place) = v {
-            return Weighed::Unsound(number, place);
-        }
+    while at < len {
         let here = at;
-        at = record_end(book, here);
-        if is_weighed(book[here]) {
-            sum += dose.milligrams.0 as u64;
-            count += 1;
+        let kind = book[here];
+        if is_bare(kind) {
+            at = here + 1;
+        } else {
+            at = record_end(book, here);
+            if is_weighed(kind) {
+                if !known(edition, kind) {
+                    return Weighed::Unsound(20, here as u32);
+                }
+                if len < at {
+                    return Weighed::Unsound(21, here as u32);
+                }
+                let dose = Dose::within(book, here);
+                if !dose.lawful() {
+                    return Weighed::Unsound(22, here as u32);
+                }
+                sum += dose.milligrams.0 as u64;
+                count += 1;
+            } else {
+                if len < at {
+                    return Weighed::Unsound(21, here as u32);
+                }
+            }
         }
     }
     Weighed::Doses(count, sum)

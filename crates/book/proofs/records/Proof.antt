@@ -1,6 +1,5 @@
 -- The records that are left decide, and their doses come on top of the count and the sum. Each record takes a byte and
 -- weighs less than 2^32, so neither overflows. Assumes nothing.
-use borrow.Author.Needs.{needs}
 use Prim.Native.Nat.{_+_, _-_, _*_, _≤_}
 use mathlib.Core.Path.{_≡_}
 use lib.ListN.{length}
@@ -9,12 +8,20 @@ use Rattle.book.specs.Kinds.{isKnown}
 use Rattle.book.specs.Book.{placesFrom, places, recordsCheck}
 use Rattle.book.specs.Doses.{dosesOf, doses, sumOf}
 use Rattle.book.proofs.RecordsLaws as laws
+use borrow.Author.Needs.{needs}
 use Rattle.book.proofs.records.Statement.{statement}
 use Rattle.book.proofs.records.Tie as tie
+use Rattle.book.proofs.records.Reads as reads
+use Rattle.book.proofs.records.Lts as lts
+use Rattle.book.proofs.dose.Dose.lawful.Reads as lawful-reads
+use Rattle.book.proofs.dose.Dose.within.Reads as within-reads
+use Rattle.book.proofs.is_bare.Reads as is-bare-reads
+use Rattle.book.proofs.is_weighed.Reads as is-weighed-reads
+use Rattle.book.proofs.known.Reads as known-reads
+use Rattle.book.proofs.record_end.Reads as record-end-reads
 
 abbrev Inv-loop : tie.InvT-loop
-Inv-loop edition book at₀ count₀ sum₀ at count sum =
-    (recordsCheck (isKnown edition) book (places book)
+Inv-loop edition book len at₀ count₀ sum₀ at count sum = (recordsCheck (isKnown edition) book (places book)
     ≡ recordsCheck (isKnown edition) book (placesFrom book (length book - at) at))
     × (length (doses book) ≡ count + length (dosesOf book (placesFrom book (length book - at) at)))
     × (sumOf (doses book) ≡ sum + sumOf (dosesOf book (placesFrom book (length book - at) at)))
@@ -22,34 +29,70 @@ Inv-loop edition book at₀ count₀ sum₀ at count sum =
     × (sum ≤ 4294967296 * at)
 
 abbrev μ-loop : tie.MeasureT-loop
-μ-loop edition book at₀ count₀ sum₀ at count sum = length book - at
+μ-loop edition book len at₀ count₀ sum₀ at count sum = length book - at
 
 loop-holds : tie.Need-loop-holds Inv-loop μ-loop
 loop-holds c = (simp sub-zero, simp (sub-zero, zero-add), simp (sub-zero, zero-add), search needs, search needs)
 
-at-requires : tie.Need-at-requires Inv-loop μ-loop
-at-requires c κs = search needs
+shared-slice-read-kind : tie.Need-shared-slice-read-kind Inv-loop μ-loop
+shared-slice-read-kind c = search needs
 
-record-check-requires : tie.Need-record-check-requires Inv-loop μ-loop
-record-check-requires c κs = search needs
+is-bare-requires : tie.Need-is-bare-requires Inv-loop μ-loop
+is-bare-requires c κs = search needs
 
-enum-known-v : tie.Need-enum-known-v Inv-loop μ-loop
-enum-known-v c = search needs
+add-at : tie.Need-add-at Inv-loop μ-loop
+add-at c = search needs
 
-returns : tie.Need-returns Inv-loop μ-loop
-returns c = search laws.ends
+loop-less : tie.Need-loop-less Inv-loop μ-loop
+loop-less c = search needs
 
-enum-told : tie.Need-enum-told Inv-loop μ-loop
-enum-told c = search needs
+loop-again : tie.Need-loop-again Inv-loop μ-loop
+loop-again c = (search laws.bare-turn, search (laws.bare-skipped length), search (laws.bare-skipped sumOf), search needs, search needs)
 
 record-end-requires : tie.Need-record-end-requires Inv-loop μ-loop
 record-end-requires c κs = search needs
 
-shared-slice-read-is-weighed : tie.Need-shared-slice-read-is-weighed Inv-loop μ-loop
-shared-slice-read-is-weighed c = search needs
-
 is-weighed-requires : tie.Need-is-weighed-requires Inv-loop μ-loop
 is-weighed-requires c κs = search needs
+
+known-requires : tie.Need-known-requires Inv-loop μ-loop
+known-requires c κs = search needs
+
+cast-t17 : tie.Need-cast-t17 Inv-loop μ-loop
+cast-t17 c = search needs
+
+returns : tie.Need-returns Inv-loop μ-loop
+returns c = search laws.unknown
+
+cast-t18 : tie.Need-cast-t18 Inv-loop μ-loop
+cast-t18 c = search needs
+
+returns-2 : tie.Need-returns-2 Inv-loop μ-loop
+returns-2 c = search laws.weighed-past
+
+within-requires : tie.Need-within-requires Inv-loop μ-loop
+within-requires c κs = search laws.within-book
+
+lawful-requires : tie.Need-lawful-requires Inv-loop μ-loop
+lawful-requires c κs = search needs
+
+cast-t19 : tie.Need-cast-t19 Inv-loop μ-loop
+cast-t19 c = search needs
+
+returns-3 : tie.Need-returns-3 Inv-loop μ-loop
+returns-3 c =
+    let at-lawful = c .before in
+    let at-within = at-lawful .before in
+    let fits = at-within .before in
+    let knows = fits .before in
+    let at-known = knows .before in
+    let weighed = at-known .before in
+    let at-weighed = weighed .before in
+    let at-end = at-weighed .before in
+    let in-loop = at-end .before .before .before .before in
+    laws.unlawful _ _ _ (in-loop .loop-test .taken) (at-end .record-end .ensures) (at-weighed .is-weighed .ensures)
+    (in-loop .before .loop .inv .0) (weighed .if2 .taken) (at-known .known .ensures) (knows .if3 .left) (fits .if4 .left)
+    (at-within .within .ensures) (at-lawful .lawful .ensures) (c .if5 .taken) _ _
 
 cast-sum : tie.Need-cast-sum Inv-loop μ-loop
 cast-sum c = search needs
@@ -60,21 +103,26 @@ add-sum c = search needs
 add-count : tie.Need-add-count Inv-loop μ-loop
 add-count c = search needs
 
-loop-less : tie.Need-loop-less Inv-loop μ-loop
-loop-less c = search needs
-
-loop-again : tie.Need-loop-again Inv-loop μ-loop
-loop-again c = (search laws.turn, search laws.counted, search laws.summed, search needs, search needs)
-
 loop-less-2 : tie.Need-loop-less-2 Inv-loop μ-loop
 loop-less-2 c = search needs
 
 loop-again-2 : tie.Need-loop-again-2 Inv-loop μ-loop
-loop-again-2 c =
-    (search laws.turn, search (laws.skipped length), search (laws.skipped sumOf), search needs, search needs)
+loop-again-2 c = (search laws.weighed-turn, search laws.counted, search laws.summed, search needs, search needs)
 
-returns-2 : tie.Need-returns-2 Inv-loop μ-loop
-returns-2 c = search laws.spent
+cast-t22 : tie.Need-cast-t22 Inv-loop μ-loop
+cast-t22 c = search needs
+
+returns-4 : tie.Need-returns-4 Inv-loop μ-loop
+returns-4 c = search laws.remark-past
+
+loop-less-3 : tie.Need-loop-less-3 Inv-loop μ-loop
+loop-less-3 c = search needs
+
+loop-again-3 : tie.Need-loop-again-3 Inv-loop μ-loop
+loop-again-3 c = (search laws.remark-turn, search (laws.skipped length), search (laws.skipped sumOf), search needs, search needs)
+
+returns-5 : tie.Need-returns-5 Inv-loop μ-loop
+returns-5 c = search laws.spent
 
 pub records-spec : {M : Type 1} → statement M
 records-spec =
@@ -83,19 +131,29 @@ records-spec =
     Inv-loop
     μ-loop
     loop-holds
-    at-requires
-    record-check-requires
-    enum-known-v
-    returns
-    enum-told
+    shared-slice-read-kind
+    is-bare-requires
+    add-at
+    loop-less
+    loop-again
     record-end-requires
-    shared-slice-read-is-weighed
     is-weighed-requires
+    known-requires
+    cast-t17
+    returns
+    cast-t18
+    returns-2
+    within-requires
+    lawful-requires
+    cast-t19
+    returns-3
     cast-sum
     add-sum
     add-count
-    loop-less
-    loop-again
     loop-less-2
     loop-again-2
-    returns-2)
+    cast-t22
+    returns-4
+    loop-less-3
+    loop-again-3
+    returns-5)

@@ -1,10 +1,33 @@
--- The two numbers' bytes, one number behind the other.
--- Assumes nothing.
-use native.Mathlib.Omega.{arith}
+-- The two numbers' bytes, one number behind the other. Assumes nothing.
 use Rattle.book.proofs.BufferLaws as laws
 use borrow.Author.Needs.{needs}
 use Rattle.book.proofs.buffer.put_dose_bytes.Statement.{statement}
 use Rattle.book.proofs.buffer.put_dose_bytes.Tie as tie
+use Rattle.book.proofs.buffer.put_dose_bytes.Reads as reads
+use Rattle.book.proofs.buffer.put_dose_bytes.Lts as lts
+use Rattle.book.proofs.buffer.put_number.Reads as put-number-reads
+use Rattle.book.proofs.buffer.put_whole.Reads as put-whole-reads
+
+add-end : tie.Need-add-end
+add-end c = search needs
+
+cast-put-whole : tie.Need-cast-put-whole
+cast-put-whole c = search needs
+
+put-whole-requires : tie.Need-put-whole-requires
+put-whole-requires c κs = search needs
+
+add-put-whole : tie.Need-add-put-whole
+add-put-whole c = search needs
+
+put-whole-requires-2 : tie.Need-put-whole-requires-2
+put-whole-requires-2 c κs = search needs
+
+same-length : tie.Need-same-length
+same-length c = search needs
+
+returns : tie.Need-returns
+returns c = search laws.eight-bytes
 
 cast-put-number : tie.Need-cast-put-number
 cast-put-number c = search needs
@@ -16,21 +39,28 @@ add-put-number : tie.Need-add-put-number
 add-put-number c = search needs
 
 put-number-requires-2 : tie.Need-put-number-requires-2
-put-number-requires-2 c κs = omega (arith, c .before .before .before .before .before .before .before .pre)
+put-number-requires-2 c κs = search needs
 
-same-length : tie.Need-same-length
-same-length c = search needs
+same-length-2 : tie.Need-same-length-2
+same-length-2 c = search needs
 
-returns : tie.Need-returns
-returns c = search laws.eight-bytes
+returns-2 : tie.Need-returns-2
+returns-2 c = search laws.eight-bytes
 
 pub put-dose-bytes-spec : {M : Type 1} → statement M
 put-dose-bytes-spec =
     tie.close
     (tie.spec
+    add-end
+    cast-put-whole
+    put-whole-requires
+    add-put-whole
+    put-whole-requires-2
+    same-length
+    returns
     cast-put-number
     put-number-requires
     add-put-number
     put-number-requires-2
-    same-length
-    returns)
+    same-length-2
+    returns-2)
