@@ -14,8 +14,8 @@ use Rattle.format.specs.Verdicts.{check, both}
 use Rattle.format.proofs.VerdictLaws.{both-fail, both-inverted}
 use Rattle.package.specs.Package.{soundCheck, signatureAt, headerAt}
 use Rattle.catalogue.specs.Catalogue.{lineAt, signatureCount, lineCount}
-use Rattle.rules.specs.Tags.{numberIn}
-use Rattle.rules.specs.Lines.{linesFrom, linesCheck}
+use Rattle.tags.specs.Tags.{numberIn}
+use Rattle.lines.specs.Lines.{linesFrom, linesCheck}
 use Rattle.rules.specs.Rules.{rulesCheck}
 use Rattle.book.specs.Book.{places, bookCheck}
 use Rattle.book.specs.Doses.{doses, sumOf}

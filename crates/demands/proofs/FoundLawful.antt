@@ -14,10 +14,10 @@ use Rattle.structure.specs.declared.lookup.Found.{Found}
 use Rattle.structure.specs.declared.lookup.Found.the-variants.{At, Nothing}
 use Rattle.structure.specs.declared.lookup.Tagged.{Tagged}
 use Rattle.structure.specs.declared.lookup.Tagged.the-variants.{Present, Absent}
-use Rattle.structure.specs.Entries.{recordAt, dataEnd}
+use Rattle.entries.specs.Entries.{recordAt, dataEnd}
 use Rattle.structure.specs.Lookup.{entryOf, taggedIn, entryFor}
-use Rattle.rules.specs.Tags.{isPresent, countOf, has, countIn, numberAt, numberIn}
-use Rattle.rules.specs.Texts.{entryIn}
+use Rattle.tags.specs.Tags.{isPresent, countOf, has, countIn, numberAt, numberIn}
+use Rattle.texts.specs.Texts.{entryIn}
 use Rattle.demands.specs.Lawful.{HasTag, WhereTagged, HasCount, SameCount, DataIs}
 use Rattle.demands.proofs.TagLawful.{tagged-absent, has-tag, where-absent, where-present}
 

@@ -7,9 +7,9 @@ use mathlib.Core.List.{List, [], _∷_}
 use mathlib.Core.Bool.{Bool, true, false, and-eq-true-iff}
 use Rattle.format.specs.declared.places.Section.{Section}
 use Rattle.format.specs.declared.verdict.Verdict.the-variants.{Pass}
-use Rattle.rules.specs.Tags.{has, countIn}
-use Rattle.rules.specs.Groups.{needsCheck, countCheck, countsCheck, signaturePairs, scriptPairs}
-use Rattle.rules.specs.Groups.{oldNamesRight, newNamesCheck, namesCheck, ledGroups, groupsCheck}
+use Rattle.tags.specs.Tags.{has, countIn}
+use Rattle.groups.specs.Groups.{needsCheck, countCheck, countsCheck, signaturePairs, scriptPairs}
+use Rattle.groups.specs.Groups.{oldNamesRight, newNamesCheck, namesCheck, ledGroups, groupsCheck}
 use Rattle.demands.specs.Lawful.{HasTag, SameCount, Needs, Each, LawfulGroups}
 use Rattle.demands.proofs.PassIff.{check-iff, last-iff, both-iff, eqb-iff, choice-iff, unless-iff, not-iff}
 use Rattle.demands.proofs.TagLawful.{has-tag, lacks-tag}

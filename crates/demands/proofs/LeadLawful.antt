@@ -7,7 +7,7 @@ use mathlib.Core.Bool.{true}
 use lib.ListN.{getD}
 use native.Mathlib.Omega.{arith}
 use borrow.Author.Tests.{eqb-true, eq-eqb}
-use Rattle.be.specs.Strings.{stringsFrom, isEnded}
+use Rattle.strings.specs.Strings.{stringsFrom, isEnded}
 use Rattle.format.specs.declared.verdict.Verdict.the-variants.{Pass}
 use Rattle.format.specs.Lead.{leadOf}
 use Rattle.format.proofs.VerdictLaws.{passed, inverted}

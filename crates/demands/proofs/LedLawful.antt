@@ -8,8 +8,8 @@ use mathlib.Core.Bool.{true, _||_}
 use lib.Dec.{eqb}
 use Rattle.format.specs.declared.places.Section.{Section}
 use Rattle.format.specs.declared.verdict.Verdict.the-variants.{Pass}
-use Rattle.rules.specs.Tags.{has, countIn}
-use Rattle.rules.specs.Groups.{wholeCheck, ledCheck}
+use Rattle.tags.specs.Tags.{has, countIn}
+use Rattle.groups.specs.Groups.{wholeCheck, ledCheck}
 use Rattle.demands.specs.Lawful.{HasTag, SameCount, LawfulLed}
 use Rattle.demands.proofs.PassIff.{check-iff, eqb-iff, cond-iff, one-iff}
 use Rattle.demands.proofs.TagLawful.{has-tag}

@@ -14,7 +14,7 @@ use Rattle.structure.specs.declared.lookup.Tagged.the-variants.{Present, Absent
 use Rattle.structure.specs.Lookup.{taggedIn}
 use Rattle.catalogue.specs.declared.Line.{Line}
 use Rattle.catalogue.specs.Catalogue.{isRequired, isAsLine}
-use Rattle.rules.specs.Lines.{lineCheckAs, lineCheck, lineIf}
+use Rattle.lines.specs.Lines.{lineCheckAs, lineCheck, lineIf}
 
 -- a line's own verdict passes, or is 14 or 15 with its tag
 tried : (ok : Bool) (number place : ℕ) → (check ok number place Pass ≡ Pass) ⊎ (check ok number place Pass ≡ Fail number place)

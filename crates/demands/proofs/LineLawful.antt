@@ -16,7 +16,7 @@ use Rattle.structure.specs.Lookup.{taggedIn}
 use Rattle.catalogue.specs.declared.Line.{Line}
 use Rattle.catalogue.specs.Catalogue.{isAsLine, lineAt}
 use Rattle.package.specs.Package.{signatureAt, headerAt}
-use Rattle.rules.specs.Lines.{lineCheckAs, lineCheck, linesFrom, linesCheck}
+use Rattle.lines.specs.Lines.{lineCheckAs, lineCheck, linesFrom, linesCheck}
 use Rattle.reading.specs.Editions.{Edition}
 use Rattle.demands.specs.Lawful.{LawfulLine, LawfulLines}
 use Rattle.demands.proofs.PassIff.{last-iff, both-iff, eqb-iff, cond-iff, not-iff, given-iff}

@@ -8,16 +8,16 @@ use lib.Dec.{eqb, leb}
 use native.Mathlib.Omega.{arith}
 use native.Mathlib.Nat.{eq-or-lt-of-le}
 use borrow.Author.Tests.{eqb-true, eqb-false, eq-eqb, ne-eqb, leb-true, leb-false, le-leb}
-use Rattle.be.specs.declared.Ending.the-variants.{Ends, Open}
-use Rattle.be.specs.Strings.{isEnded}
+use Rattle.strings.specs.declared.Ending.the-variants.{Ends, Open}
+use Rattle.strings.specs.Strings.{isEnded}
 use Rattle.format.specs.declared.places.Section.{Section}
 use Rattle.format.specs.declared.records.IndexRecord.{IndexRecord}
 use Rattle.format.specs.Places.{inFile}
-use Rattle.structure.specs.declared.types.ElementSize.{ElementSize}
-use Rattle.structure.specs.declared.types.ElementSize.the-variants.{Bytes, ToZero, Unlawful}
-use Rattle.structure.specs.Types.{elementSize, isLawful}
-use Rattle.structure.specs.Entries.{recordAt, typeLawful, countRight, alignedTo, isAligned}
-use Rattle.structure.specs.Entries.{endFor, dataEnd, isInside, tagBefore}
+use Rattle.entries.specs.declared.types.ElementSize.{ElementSize}
+use Rattle.entries.specs.declared.types.ElementSize.the-variants.{Bytes, ToZero, Unlawful}
+use Rattle.entries.specs.Types.{elementSize, isLawful}
+use Rattle.entries.specs.Entries.{recordAt, typeLawful, countRight, alignedTo, isAligned}
+use Rattle.entries.specs.Entries.{endFor, dataEnd, isInside, tagBefore}
 use Rattle.demands.specs.Lawful.{zerosFrom, LawfulRecord}
 use Rattle.demands.proofs.StringLawful.{strings-lawful}
 

@@ -8,7 +8,7 @@ use lib.Dec.{eqb}
 use lib.ListN.{getD}
 use native.Mathlib.Omega.{arith}
 use borrow.Author.Tests.{eqb-true, eqb-false}
-use Rattle.be.specs.Strings.{stringsFrom, isEnded}
+use Rattle.strings.specs.Strings.{stringsFrom, isEnded}
 use Rattle.demands.specs.Lawful.{zerosFrom}
 
 module _ (s : List ℕ) where

@@ -12,7 +12,7 @@ use Rattle.format.specs.declared.records.HeaderRecord.{HeaderRecord}
 use Rattle.format.specs.declared.verdict.Verdict.the-variants.{Pass}
 use Rattle.format.specs.Records.{headerRecordAt}
 use Rattle.format.proofs.VerdictLaws.{passed, inverted, both-pass}
-use Rattle.structure.specs.Entries.{recordAt, entryCheck, recordCheck}
+use Rattle.entries.specs.Entries.{recordAt, entryCheck, recordCheck}
 use Rattle.structure.specs.Structure.{sectionAt, headerCheck, recordsFrom, structureCheck}
 use Rattle.structure.specs.Sound.{SoundHeader}
 use Rattle.structure.proofs.PassLaws.{structure-header, structure-record}

@@ -12,9 +12,9 @@ use Rattle.format.specs.declared.places.Section.{Section}
 use Rattle.format.specs.declared.records.IndexRecord.{IndexRecord}
 use Rattle.structure.specs.declared.lookup.Tagged.{Tagged}
 use Rattle.structure.specs.declared.lookup.Tagged.the-variants.{Present, Absent}
-use Rattle.structure.specs.Entries.{recordAt}
+use Rattle.entries.specs.Entries.{recordAt}
 use Rattle.structure.specs.Lookup.{taggedFrom, taggedIn}
-use Rattle.rules.specs.Tags.{isPresent}
+use Rattle.tags.specs.Tags.{isPresent}
 use Rattle.demands.specs.Lawful.{HasTag, WhereTagged}
 
 module _ (s : List ℕ) (section : Section) (tag : ℕ) where

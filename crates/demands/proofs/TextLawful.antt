@@ -15,9 +15,9 @@ use Rattle.format.specs.declared.records.IndexRecord.{IndexRecord}
 use Rattle.format.specs.declared.verdict.Verdict.the-variants.{Pass}
 use Rattle.structure.specs.declared.lookup.Entry.{Entry}
 use Rattle.structure.specs.declared.lookup.Found.{Found}
-use Rattle.rules.specs.Tags.{countIn}
-use Rattle.rules.specs.Texts.{foundText, textIs, allBelow, foundBelow, indexesBelow}
-use Rattle.rules.specs.Texts.{slashesEnd, foundSlashes, directoriesEnd, textsCheck}
+use Rattle.tags.specs.Tags.{countIn}
+use Rattle.texts.specs.Texts.{foundText, textIs, allBelow, foundBelow, indexesBelow}
+use Rattle.texts.specs.Texts.{slashesEnd, foundSlashes, directoriesEnd, textsCheck}
 use Rattle.demands.specs.Lawful.{HasTag, WhereTagged, DataIs, TextIs, LawfulTexts}
 use Rattle.demands.proofs.PassIff.{check-iff, eqb-iff, ltb-iff, cond-iff}
 use Rattle.demands.proofs.FoundLawful.{Apart, data-iff, below-count-iff}

@@ -12,18 +12,18 @@ use Rattle.format.specs.declared.records.IndexRecord.{IndexRecord}
 use Rattle.format.specs.Sizes.{packageLimit, leadSize}
 use Rattle.format.specs.Places.{inFile}
 use Rattle.format.specs.Records.{headerRecordAt}
-use Rattle.structure.specs.declared.types.ElementSize.the-variants.{Bytes, ToZero}
+use Rattle.entries.specs.declared.types.ElementSize.the-variants.{Bytes, ToZero}
 use Rattle.structure.specs.declared.lookup.Entry.{Entry}
-use Rattle.structure.specs.Types.{elementSize}
-use Rattle.structure.specs.Entries.{recordAt}
+use Rattle.entries.specs.Types.{elementSize}
+use Rattle.entries.specs.Entries.{recordAt}
 use Rattle.structure.specs.Structure.{sectionAt}
 use Rattle.structure.specs.Sound.{SoundHeader}
 use Rattle.structure.specs.Lookup.{entryAt}
 use Rattle.package.specs.Package.{headerStart, signatureAt, headerAt}
 use Rattle.catalogue.specs.declared.Line.{Line}
 use Rattle.catalogue.specs.Catalogue.{lineAt, signatureCount, lineCount}
-use Rattle.rules.specs.Groups.{fileTags}
-use Rattle.rules.specs.Texts.{linux, binSh}
+use Rattle.groups.specs.Groups.{fileTags}
+use Rattle.texts.specs.Texts.{linux, binSh}
 use Rattle.book.specs.Kinds.{isWeighed}
 use Rattle.book.specs.Book.{bookLimit, kindAt, recordEnd, places, doseAt}
 use Rattle.book.specs.Doses.{doses, sumOf}

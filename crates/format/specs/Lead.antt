@@ -3,7 +3,7 @@ use Prim.Native.Nat.{ℕ}
 use mathlib.Core.List.{List}
 use lib.ListN.{getD}
 use Rattle.be.specs.Numbers.{be16At, be32At}
-use Rattle.be.specs.Strings.{stringsFrom, isEnded}
+use Rattle.strings.specs.Strings.{stringsFrom, isEnded}
 use Rattle.format.specs.declared.lead.Lead.{Lead}
 
 -- bytes 0-3; 4; 5; 6-7 (type); 10-75 (name) hold at least one zero byte; 76-77 (system); 78-79 (signature type)

@@ -43,7 +43,7 @@ impl Lead {
             major: be::byte_at(pkg, Self::MAJOR),
             minor: be::byte_at(pkg, Self::MINOR),
             ty: be::be16(pkg, Self::TYPE),
-            named: be::ended(be::strings_end(pkg, Self::NAME, Self::SYSTEM, 1)),
+            named: strings::ended(strings::strings_end(pkg, Self::NAME, Self::SYSTEM, 1)),
             system: be::be16(pkg, Self::SYSTEM),
             signature_type: be::be16(pkg, Self::SIGNATURE_TYPE),
         }

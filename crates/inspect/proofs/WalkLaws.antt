@@ -10,9 +10,9 @@ use Rattle.format.specs.declared.places.Section.{Section}
 use Rattle.format.specs.declared.verdict.Verdict.{Verdict}
 use Rattle.format.specs.declared.verdict.Verdict.the-variants.{Pass, Fail}
 use Rattle.format.specs.declared.verdict.Answer.the-variants.{Done, Refused}
-use Rattle.package.specs.declared.walk.Step.{Step}
+use Rattle.walk.specs.declared.Step.{Step}
 use Rattle.package.specs.Package.{soundCheck, structureOf}
-use Rattle.package.specs.Walk.{stepIn, stepAs, stepOf}
+use Rattle.walk.specs.Walk.{stepIn, stepAs, stepOf}
 
 in-section : (s : List ℕ) (section : Section) (n : ℕ) {place : ℕ} → stepIn s section n .answer ≡ Done place
     → section .nindex - stepIn s section n .next .number < section .nindex - n

@@ -15,12 +15,12 @@ fn answer(asked: Request, pkg: &[u8]) {
     match asked {
         Request::Index(which) => show::put_index(pkg, which),
         Request::Find(which, tag, ty) => show::put_found(
-            package::find_answer(pkg, which, tag, ty),
-            package::find(pkg, which, tag, ty),
+            lookups::find_answer(pkg, which, tag, ty),
+            lookups::find(pkg, which, tag, ty),
         ),
         Request::Element(which, tag, ty, k) => show::put_found(
-            package::find_element_answer(pkg, which, tag, ty, k),
-            package::find_element(pkg, which, tag, ty, k),
+            lookups::find_element_answer(pkg, which, tag, ty, k),
+            lookups::find_element(pkg, which, tag, ty, k),
         ),
         Request::Requires => show::put_required(pkg),
         Request::Unknown => show::put_usage(),

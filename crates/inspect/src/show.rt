@@ -5,7 +5,7 @@ use format::Answer;
 use format::IndexRecord;
 use libc::STDOUT_FILENO;
 use package::Opened;
-use package::Position;
+use walk::Position;
 
 // How many bytes are spelled in hex at a time.
 const PART: usize = 2048;
@@ -107,7 +107,7 @@ pub(crate) fn put_required(pkg: &[u8]) {
         put(b"\n");
         return;
     }
-    put_hex(package::required_version(pkg, &name[..n]));
+    put_hex(lookups::required_version(pkg, &name[..n]));
 }
 
 pub(crate) fn put_usage() {

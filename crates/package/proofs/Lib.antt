@@ -1,15 +1,2 @@
 pub mod OpenLaws
-pub mod SeekLaws
-pub mod PartLaws
-pub mod StepLaws
-pub mod VersionLaws
-pub mod FoundLaws
 pub mod NumberLaws
-pub mod ElementSound
-pub mod ElementFound
-pub mod LookupTheorems
-pub mod AnswerTheorems
-pub mod ElementLaws
-pub mod SingleLaws
-pub mod ElementTheorems
-pub mod WalkLaws

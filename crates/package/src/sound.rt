@@ -100,7 +100,7 @@ fn structures(pkg: &[u8], len: u32, which: u32, tag: u32, ty: u32) -> Searched
 }
 
 // Checks 2 to 13, and the entry of one structure (0 the signature, any other number the header) with the tag and the type.
-pub(crate) fn search(pkg: &[u8], which: u32, tag: u32, ty: u32) -> Searched
+pub fn search(pkg: &[u8], which: u32, tag: u32, ty: u32) -> Searched
     ensures { λ r. ⌜ r ≡ searched (now (pkg .entry)) which tag ty ⌝ }
 {
     let len = pkg.len();

@@ -19,8 +19,8 @@ use Rattle.structure.specs.declared.lookup.Found.{Found}
 use Rattle.structure.specs.declared.lookup.Found.the-variants.{At, Nothing}
 use Rattle.catalogue.specs.declared.Line.{Line}
 use Rattle.catalogue.specs.Catalogue.{inEdition, lineAt}
-use Rattle.rules.specs.Tags.{numberIn}
-use Rattle.rules.specs.Texts.{entryIn, foundBytes}
+use Rattle.tags.specs.Tags.{numberIn}
+use Rattle.texts.specs.Texts.{entryIn, foundBytes}
 use Rattle.rules.specs.Rules.{rulesCheck}
 use Rattle.book.specs.declared.Weighed.{Weighed}
 use Rattle.book.specs.declared.Weighed.the-variants as weighed′

@@ -47,7 +47,7 @@ fn sum_check(edition: u32, pkg: &[u8], header: Section, sum: u64) -> Verdict
     if !Line::at(Batch::LINE).in_edition(edition) {
         return Verdict::Pass;
     }
-    if rules::tags::number(pkg, header, Batch::TAG) as u64 == sum {
+    if tags::number(pkg, header, Batch::TAG) as u64 == sum {
         return Verdict::Pass;
     }
     Verdict::Fail(23, Batch::TAG)

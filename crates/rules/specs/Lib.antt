@@ -1,5 +1,1 @@
-pub mod Tags
-pub mod Lines
-pub mod Groups
-pub mod Texts
 pub mod Rules

@@ -8,10 +8,10 @@ use Rattle.format.specs.declared.verdict.Verdict.{Verdict}
 use Rattle.format.specs.declared.verdict.Verdict.the-variants.{Pass}
 use Rattle.format.specs.Verdicts.{check, both}
 use Rattle.catalogue.specs.declared.Line.{Line}
-use Rattle.rules.specs.Tags.{numberIn}
-use Rattle.rules.specs.Lines.{linesCheck}
-use Rattle.rules.specs.Groups.{groupsCheck}
-use Rattle.rules.specs.Texts.{textsCheck}
+use Rattle.tags.specs.Tags.{numberIn}
+use Rattle.lines.specs.Lines.{linesCheck}
+use Rattle.groups.specs.Groups.{groupsCheck}
+use Rattle.texts.specs.Texts.{textsCheck}
 
 -- 16 | the signature's 1000 isn't length − H | 1000
 unfoldable pub sizeTagCheck : List ℕ → ℕ → Section → Section → Verdict

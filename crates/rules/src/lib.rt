@@ -4,10 +4,6 @@ ghost use Prim.Native.Nat.{ℕ, _-_};
 ghost use Rattle.catalogue.specs.Catalogue.{inEdition};
 ghost use Rattle.rules.specs.Rules.{sizeTagCheck, rulesCheck};
 
-pub mod groups;
-pub mod lines;
-pub mod tags;
-pub mod texts;
 
 use format::Section;
 use format::Verdict;

@@ -2,10 +2,10 @@
 use lib.Dec.{T}
 use Rattle.be.specs.Numbers.{be16At, be32At}
 use Rattle.be.specs.Bytes.{sameBytes}
-use Rattle.be.specs.Strings.{stringsFrom}
+use Rattle.strings.specs.Strings.{stringsFrom}
 use Rattle.format.specs.Verdicts.{check, both}
-use Rattle.structure.specs.Types.{elementSize}
-use Rattle.structure.specs.Entries.{countRight, dataEnd, tagBefore, entryCheck}
+use Rattle.entries.specs.Types.{elementSize}
+use Rattle.entries.specs.Entries.{countRight, dataEnd, tagBefore, entryCheck}
 use Rattle.structure.specs.Structure.{headerCheck, recordsFrom, structureCheck}
 use Rattle.book.specs.Kinds.{isKnown}
 use Rattle.book.specs.Book.{placesFrom, doseLawful, recordCheck, recordsCheck, lengthCheck, bookCheck}

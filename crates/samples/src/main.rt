@@ -29,7 +29,7 @@ fn find(name: &[u8], tag: u32, ty: u32) {
     let mut pkg = [0u8; 65537];
     let n = io::read_full(file, &mut pkg);
     libc::close(file);
-    let answer = package::find_answer(&pkg[..n], 1, tag, ty);
+    let answer = lookups::find_answer(&pkg[..n], 1, tag, ty);
     io::write_all(STDOUT_FILENO, name);
     io::write_all(STDOUT_FILENO, b": ");
     show(answer);

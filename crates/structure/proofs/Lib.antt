@@ -1,5 +1,3 @@
-pub mod TypeLaws
-pub mod EntryLaws
 pub mod LookupLaws
 pub mod RecordsLaws
 pub mod PassLaws

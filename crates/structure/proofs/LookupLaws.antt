@@ -6,8 +6,8 @@ use mathlib.Core.Bool.{Bool, true, false, cond}
 use lib.Dec.{eqb}
 use native.Mathlib.Omega.{arith}
 use borrow.Author.Tests.{eq-eqb, ne-eqb}
-use Rattle.be.specs.declared.Ending.{Ending}
-use Rattle.be.specs.declared.Ending.the-variants.{Ends, Open}
+use Rattle.strings.specs.declared.Ending.{Ending}
+use Rattle.strings.specs.declared.Ending.the-variants.{Ends, Open}
 use Rattle.be.specs.Numbers.{be32At}
 use Rattle.format.specs.declared.places.FileOffset.{FileOffset}
 use Rattle.format.specs.declared.places.Section.{Section}
@@ -19,7 +19,7 @@ use Rattle.structure.specs.declared.lookup.Found.{Found}
 use Rattle.structure.specs.declared.lookup.Found.the-variants.{At, Nothing}
 use Rattle.structure.specs.declared.lookup.Tagged.{Tagged}
 use Rattle.structure.specs.declared.lookup.Tagged.the-variants.{Present, Absent}
-use Rattle.structure.specs.Entries.{recordAt, dataEnd}
+use Rattle.entries.specs.Entries.{recordAt, dataEnd}
 use Rattle.structure.specs.Lookup.{extentTo, entryOf, entryAt, isFor, findFrom, orElse, noted, taggedFrom, taggedIn, entryFor}
 
 pub extent-ends : (from : ℕ) {end : Ending} {to : ℕ} → end ≡ Ends to → from ≤ to → to - from ≡ extentTo from end

@@ -3,13 +3,13 @@ use Prim.Native.Nat.{ℕ, zero, suc, _+_, _≤_}
 use mathlib.Core.Path.{_≡_}
 use mathlib.Core.List.{List}
 use native.Mathlib.Omega.{arith}
-use Rattle.be.specs.declared.Ending.{Ending}
+use Rattle.strings.specs.declared.Ending.{Ending}
 use Rattle.format.specs.declared.places.Section.{Section}
 use Rattle.format.specs.declared.records.HeaderRecord.{HeaderRecord}
 use Rattle.format.specs.declared.records.IndexRecord.{IndexRecord}
 use Rattle.format.specs.declared.verdict.Verdict.the-variants.{Fail}
 use Rattle.format.proofs.NumberLaws.{pass-number, check-number, both-number}
-use Rattle.structure.specs.Entries.{entryCheck}
+use Rattle.entries.specs.Entries.{entryCheck}
 use Rattle.structure.specs.Structure.{headerCheck, recordsFrom, structureCheck}
 
 module _ {number place : ℕ} where

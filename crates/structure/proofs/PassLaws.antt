@@ -14,7 +14,7 @@ use Rattle.format.proofs.VerdictLaws.{inverted, both-inverted, both-pass, both-
 use Rattle.structure.specs.declared.lookup.Found.{Found}
 use Rattle.structure.specs.declared.checks.Checked.{Checked}
 use Rattle.structure.specs.declared.checks.Checked.the-variants.{Sound, Unsound}
-use Rattle.structure.specs.Entries.{recordCheck}
+use Rattle.entries.specs.Entries.{recordCheck}
 use Rattle.structure.specs.Structure.{sectionOf, sectionAt, headerCheck, recordsFrom, recordsCheck, structureCheck}
 use Rattle.structure.specs.Sound.{SoundHeader}
 use Rattle.structure.specs.Lookup.{findIn, checkedAs, structureChecked}

@@ -8,13 +8,13 @@ use Rattle.format.specs.declared.verdict.Verdict.{Verdict}
 use Rattle.format.specs.declared.verdict.Verdict.the-variants.{Pass, Fail}
 use Rattle.format.specs.Verdicts.{both}
 use Rattle.format.proofs.VerdictLaws.{both-pass, both-fail}
-use Rattle.be.specs.declared.Ending.{Ending}
+use Rattle.strings.specs.declared.Ending.{Ending}
 use Rattle.format.specs.declared.records.IndexRecord.{IndexRecord}
 use Rattle.format.specs.Places.{recordPlace}
 use Rattle.format.specs.Records.{indexRecordAt}
 use Rattle.structure.specs.declared.lookup.Found.{Found}
 use Rattle.structure.specs.declared.checks.Checked.the-variants.{Sound, Unsound}
-use Rattle.structure.specs.Entries.{dataEnd, entryCheck, recordCheck}
+use Rattle.entries.specs.Entries.{dataEnd, entryCheck, recordCheck}
 use Rattle.structure.specs.Structure.{recordsFrom}
 use Rattle.structure.specs.Lookup.{findFrom, orElse, noted, checkedAs}
 use Rattle.structure.proofs.LookupLaws.{none as nothing, note-step, or-else-none}

@@ -8,25 +8,25 @@ use lib.Dec.{eqb, leb}
 use native.Mathlib.Omega.{arith}
 use native.Mathlib.Nat.{mul-le-mul-right}
 use borrow.Author.Tests.{leb-true, eqb-true, eqb-false}
-use Rattle.be.specs.declared.Ending.{Ending}
-use Rattle.be.specs.declared.Ending.the-variants.{Ends, Open}
-use Rattle.be.specs.Strings.{isEnded}
-use Rattle.be.proofs.StringLaws.{bound, positive, tight}
+use Rattle.strings.specs.declared.Ending.{Ending}
+use Rattle.strings.specs.declared.Ending.the-variants.{Ends, Open}
+use Rattle.strings.specs.Strings.{isEnded}
+use Rattle.strings.proofs.StringLaws.{bound, positive, tight}
 use Rattle.format.specs.declared.places.Section.{Section}
 use Rattle.format.specs.declared.records.IndexRecord.{IndexRecord}
 use Rattle.format.specs.declared.verdict.Verdict.the-variants.{Pass}
 use Rattle.format.specs.Places.{sectionEnd, inFile}
 use Rattle.format.proofs.VerdictLaws.{inverted}
-use Rattle.structure.specs.declared.types.ElementSize.{ElementSize}
-use Rattle.structure.specs.declared.types.ElementSize.the-variants.{Bytes, ToZero, Unlawful}
+use Rattle.entries.specs.declared.types.ElementSize.{ElementSize}
+use Rattle.entries.specs.declared.types.ElementSize.the-variants.{Bytes, ToZero, Unlawful}
 use Rattle.structure.specs.declared.lookup.Entry.{Entry}
 use Rattle.structure.specs.declared.lookup.Found.the-variants.{At}
-use Rattle.structure.specs.Types.{elementSize}
-use Rattle.structure.specs.Entries.{recordAt, countRight, endFor, dataEnd, entryCheck, recordCheck}
+use Rattle.entries.specs.Types.{elementSize}
+use Rattle.entries.specs.Entries.{recordAt, countRight, endFor, dataEnd, entryCheck, recordCheck}
 use Rattle.structure.specs.Structure.{sectionAt, structureCheck}
 use Rattle.structure.specs.Lookup.{entryOf, entryAt, isFor, findFrom, findIn}
 use Rattle.structure.specs.Sound.{SoundEntry}
-use Rattle.structure.proofs.TypeLaws.{bytes-small}
+use Rattle.entries.proofs.TypeLaws.{bytes-small}
 use Rattle.structure.proofs.PassLaws.{structure-header, structure-record}
 
 one-or-more : (b : Bool) (count : ℕ) → cond b (eqb count 1) (leb 1 count) ≡ true → 1 ≤ count

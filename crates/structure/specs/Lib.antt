@@ -1,5 +1,3 @@
-pub mod Types
-pub mod Entries
 pub mod Structure
 pub mod Lookup
 pub mod Sound

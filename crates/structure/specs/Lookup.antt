@@ -3,8 +3,8 @@ use Prim.Native.Nat.{ℕ, zero, suc, _+_, _-_}
 use mathlib.Core.List.{List}
 use mathlib.Core.Bool.{Bool, cond, _&&_}
 use lib.Dec.{eqb}
-use Rattle.be.specs.declared.Ending.{Ending}
-use Rattle.be.specs.declared.Ending.the-variants.{Ends, Open}
+use Rattle.strings.specs.declared.Ending.{Ending}
+use Rattle.strings.specs.declared.Ending.the-variants.{Ends, Open}
 use Rattle.format.specs.declared.places.Section.{Section}
 use Rattle.format.specs.declared.records.IndexRecord.{IndexRecord}
 use Rattle.format.specs.declared.verdict.Verdict.{Verdict}
@@ -18,7 +18,7 @@ use Rattle.structure.specs.declared.lookup.Tagged.{Tagged}
 use Rattle.structure.specs.declared.lookup.Tagged.the-variants.{Present, Absent}
 use Rattle.structure.specs.declared.checks.Checked.{Checked}
 use Rattle.structure.specs.declared.checks.Checked.the-variants.{Sound, Unsound}
-use Rattle.structure.specs.Entries.{recordAt, dataEnd}
+use Rattle.entries.specs.Entries.{recordAt, dataEnd}
 use Rattle.structure.specs.Structure.{structureCheck, sectionAt}
 
 -- how many bytes lie between a place and an end

@@ -3,14 +3,14 @@ use Prim.Native.Nat.{ℕ, _+_, _*_, _≤_}
 use mathlib.Core.Path.{_≡_}
 use mathlib.Core.List.{List}
 use mathlib.Core.Bool.{true}
-use Rattle.be.specs.declared.Ending.the-variants.{Ends}
-use Rattle.be.specs.Strings.{stringsFrom}
+use Rattle.strings.specs.declared.Ending.the-variants.{Ends}
+use Rattle.strings.specs.Strings.{stringsFrom}
 use Rattle.format.specs.declared.records.HeaderRecord.{HeaderRecord}
 use Rattle.format.specs.Sizes.{headerRecordSize, nindexLimit}
 use Rattle.format.specs.Places.{sectionEnd}
-use Rattle.structure.specs.declared.types.ElementSize.the-variants.{Bytes, ToZero}
+use Rattle.entries.specs.declared.types.ElementSize.the-variants.{Bytes, ToZero}
 use Rattle.structure.specs.declared.lookup.Entry.{Entry}
-use Rattle.structure.specs.Types.{elementSize, isLawful}
+use Rattle.entries.specs.Types.{elementSize, isLawful}
 use Rattle.structure.specs.Structure.{sectionOf}
 
 -- a header record in a package of len bytes

@@ -12,7 +12,7 @@ use Rattle.format.specs.Sizes.{headerRecordSize, nindexLimit}
 use Rattle.format.specs.Places.{sectionEnd}
 use Rattle.format.specs.Records.{headerRecordAt}
 use Rattle.format.specs.Verdicts.{check, both}
-use Rattle.structure.specs.Entries.{recordCheck}
+use Rattle.entries.specs.Entries.{recordCheck}
 
 -- the structure that a header record describes
 abbrev pub sectionOf : ℕ → HeaderRecord → Section

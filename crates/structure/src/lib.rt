@@ -1,11 +1,8 @@
 // One header structure: checks 5 to 13, and the entries that it holds.
 pub mod checks;
-pub mod entries;
 pub mod lookup;
-pub mod types;
 
 pub use checks::Checked;
 pub use lookup::Entry;
 pub use lookup::Found;
 pub use lookup::Tagged;
-pub use types::ElementSize;

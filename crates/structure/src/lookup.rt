@@ -1,9 +1,9 @@
 // The entry with a tag and a type.
 ghost use mathlib.Core.Path.{_≡_};
 ghost use Rattle.structure.specs.Lookup.{extentTo, entryOf, isFor, findIn, noted, taggedIn, entryFor};
-use crate::entries::data_end;
-use crate::entries::tag_at;
-use be::Ending;
+use entries::data_end;
+use entries::tag_at;
+use strings::Ending;
 use format::FileOffset;
 use format::IndexRecord;
 use format::Section;

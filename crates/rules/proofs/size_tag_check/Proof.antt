@@ -3,7 +3,7 @@
 use borrow.Author.Needs.{needs}
 use Rattle.format.proofs.VerdictLaws.{passed, stopped}
 use Rattle.rules.specs.Rules.{sizeTagCheck}
-use Rattle.rules.proofs.TestLaws.{same-number, other-number}
+use Rattle.tags.proofs.TestLaws.{same-number, other-number}
 use Rattle.rules.proofs.size_tag_check.Statement.{statement}
 use Rattle.rules.proofs.size_tag_check.Tie as tie
 

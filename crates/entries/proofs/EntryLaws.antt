@@ -1,0 +1,90 @@
+-- Laws of one index record's rules, for each way through the functions that test them.
+use Prim.Native.Nat.{ℕ, suc, _+_, _-_, _*_, _≤_, _<_, _^_}
+use mathlib.Core.Path.{_≡_, refl, sym, ap, _∙_}
+use mathlib.Core.List.{List}
+use mathlib.Core.Bool.{Bool, true, false, _||_}
+use lib.Dec.{eqb, leb}
+use native.Mathlib.Omega.{arith}
+use native.Mathlib.Nat.{mul-le-mul-right}
+use borrow.Author.Tests.{eq-eqb, ne-eqb, le-leb, lt-leb}
+use Rattle.strings.specs.declared.Ending.{Ending}
+use Rattle.strings.specs.declared.Ending.the-variants.{Ends, Open}
+use Rattle.be.specs.Numbers.{be32At}
+use Rattle.strings.specs.Strings.{stringsFrom}
+use Rattle.format.specs.declared.places.Section.{Section}
+use Rattle.format.specs.declared.records.IndexRecord.{IndexRecord}
+use Rattle.format.specs.Places.{recordPlace, inFile, sectionEnd}
+use Rattle.entries.specs.declared.types.ElementSize.{ElementSize}
+use Rattle.entries.specs.declared.types.ElementSize.the-variants.{Bytes, ToZero, Unlawful}
+use Rattle.entries.specs.Types.{elementSize}
+use Rattle.entries.specs.Entries.{countRight, dataEnd, tagBefore}
+use Rattle.entries.proofs.TypeLaws.{bytes-small}
+
+pub count-six : (e : IndexRecord) → e .ty ≡ 6 → eqb (e .count) 1 ≡ countRight e
+unfolding countRight
+count-six e h = rw (eq-eqb (e .ty) 6 h)
+
+pub count-nine : (e : IndexRecord) → (e .ty ≡ 6 → ⊥) → e .ty ≡ 9 → eqb (e .count) 1 ≡ countRight e
+unfolding countRight
+count-nine e k h = rw (ne-eqb (e .ty) 6 k, eq-eqb (e .ty) 9 h)
+
+pub count-any : (e : IndexRecord) → (e .ty ≡ 6 → ⊥) → (e .ty ≡ 9 → ⊥) → leb 1 (e .count) ≡ countRight e
+unfolding countRight
+count-any e k h = rw (ne-eqb (e .ty) 6 k, ne-eqb (e .ty) 9 h)
+
+-- a fixed size times a 32-bit count
+pub product : (ty : ℕ) {k : ElementSize} {n : ℕ} (count : ℕ) → k ≡ elementSize ty → k ≡ Bytes n → count < 2 ^ 32
+    → n * count < 2 ^ 34
+product ty {n = n} count q h k =
+    let m = bytes-small ty n (sym q ∙ h) in
+    omega (arith, mul-le-mul-right count (m .1))
+
+-- k is the element size that was found
+module _ (s : List ℕ) (section : Section) (e : IndexRecord) {k : ElementSize} (q : k ≡ elementSize (e .ty)) where
+  pub end-fits : {n from : ℕ} → k ≡ Bytes n → from ≡ inFile section (e .offset)
+      → e .offset .0 + n * e .count ≤ section .hsize → Ends (from + n * e .count) ≡ dataEnd s section e
+  unfolding dataEnd
+  end-fits {n} h f l = rw (← q, h, le-leb (e .offset .0 + n * e .count) (section .hsize) l, f)
+
+  pub end-past : {n : ℕ} → k ≡ Bytes n → section .hsize < e .offset .0 + n * e .count → Open ≡ dataEnd s section e
+  unfolding dataEnd
+  end-past {n} h l = rw (← q, h, lt-leb (e .offset .0 + n * e .count) (section .hsize) l)
+
+  pub end-strings : {r : Ending} {from end : ℕ} → k ≡ ToZero → from ≡ inFile section (e .offset) → end ≡ sectionEnd section
+      → r ≡ stringsFrom s (end - from) from (e .count) → r ≡ dataEnd s section e
+  unfolding dataEnd
+  end-strings {end = end} h f g j =
+      let m : end - inFile section (e .offset) ≡ section .hsize - e .offset .0 = omega arith in
+      rw (← q, h) (rw (f, m) at j)
+
+  pub end-unlawful : k ≡ Unlawful → Open ≡ dataEnd s section e
+  unfolding dataEnd
+  end-unlawful h = rw (← q, h)
+
+-- a number read at a place
+pub placed : (s : List ℕ) {r at place : ℕ} → r ≡ be32At s at → at ≡ place → r ≡ be32At s place
+placed s h e = h ∙ ap (be32At s) e
+
+-- one of the first k records, in the shape of what is known in a turn: v is what the search began with, r the tag read
+step : (s : List ℕ) (section : Section) (tag k : ℕ)
+    → tagBefore s section (suc k) tag ≡ (eqb (be32At s (recordPlace section k)) tag || tagBefore s section k tag)
+unfolding tagBefore
+step s section tag k = refl
+
+module _ (s : List ℕ) (section : Section) (tag k : ℕ) {v : Bool} (inv : v ≡ tagBefore s section k tag) where
+  pub turn : {r : ℕ} → r ≡ be32At s (recordPlace section (k - 1)) → (r ≡ tag → ⊥) → 0 < k
+      → v ≡ tagBefore s section (k - 1) tag
+  turn e h l =
+      let j : k ≡ suc (k - 1) = omega arith in
+      let f = ne-eqb (be32At s (recordPlace section (k - 1))) tag (λ q. h (e ∙ q)) in
+      inv ∙ ap (λ (n : ℕ). tagBefore s section n tag) j ∙ step s section tag (k - 1) ∙ rw f
+
+  pub ends : {r : ℕ} → r ≡ be32At s (recordPlace section (k - 1)) → r ≡ tag → 0 < k → true ≡ v
+  ends e h l =
+      let j : k ≡ suc (k - 1) = omega arith in
+      let f = eq-eqb (be32At s (recordPlace section (k - 1))) tag (sym e ∙ h) in
+      sym (inv ∙ ap (λ (n : ℕ). tagBefore s section n tag) j ∙ step s section tag (k - 1) ∙ rw f)
+
+  pub spent : k ≤ 0 → false ≡ v
+  unfolding tagBefore
+  spent l = let j : k ≡ 0 = omega arith in sym (rw j at inv)

@@ -1,0 +1,48 @@
+use borrow.Author.Needs.{needs}
+use Prim.Native.Nat.{_≤_}
+use mathlib.Core.Path.{_≡_, refl}
+use Rattle.entries.specs.Entries.{tagBefore}
+use Rattle.entries.proofs.EntryLaws as laws
+use Rattle.entries.proofs.tag_before.Statement.{statement}
+use Rattle.entries.proofs.tag_before.Tie as tie
+
+abbrev Inv-loop : tie.InvT-loop
+Inv-loop s section i tag k₀ k = (k ≤ i) × (tagBefore s section i tag ≡ tagBefore s section k tag)
+
+abbrev μ-loop : tie.MeasureT-loop
+μ-loop s section i tag k₀ k = k
+
+loop-holds : tie.Need-loop-holds Inv-loop μ-loop
+loop-holds c = (search needs, refl)
+
+sub-k : tie.Need-sub-k Inv-loop μ-loop
+sub-k c = search needs
+
+tag-at-requires : tie.Need-tag-at-requires Inv-loop μ-loop
+tag-at-requires c κs = search needs
+
+returns : tie.Need-returns Inv-loop μ-loop
+returns c = search laws.ends
+
+loop-less : tie.Need-loop-less Inv-loop μ-loop
+loop-less c = search needs
+
+loop-again : tie.Need-loop-again Inv-loop μ-loop
+loop-again c = (search needs, search laws.turn)
+
+returns-2 : tie.Need-returns-2 Inv-loop μ-loop
+returns-2 c = search laws.spent
+
+pub tag-before-spec : {M : Type 1} → statement M
+tag-before-spec =
+    tie.close
+    (tie.spec
+    Inv-loop
+    μ-loop
+    loop-holds
+    sub-k
+    tag-at-requires
+    returns
+    loop-less
+    loop-again
+    returns-2)

@@ -1,0 +1,68 @@
+-- The tags that are left decide.
+-- Assumes nothing.
+use Prim.Native.Nat.{_≤_, _-_}
+use mathlib.Core.Path.{_≡_}
+use lib.ListN.{drop}
+use borrow.Author.Needs.{needs}
+use Rattle.groups.specs.Groups.{countsCheck, fileTags}
+use Rattle.groups.proofs.GroupsLaws as laws
+use Rattle.groups.proofs.files.Statement.{statement}
+use Rattle.groups.proofs.files.Tie as tie
+
+abbrev Inv-loop : tie.InvT-loop
+Inv-loop pkg header n i₀ i = (i ≤ 12)
+    × (countsCheck pkg header n fileTags ≡ countsCheck pkg header n (drop i fileTags))
+
+abbrev μ-loop : tie.MeasureT-loop
+μ-loop pkg header n i₀ i = 12 - i
+
+loop-holds : tie.Need-loop-holds Inv-loop μ-loop
+loop-holds c = search needs
+
+mul-counts : tie.Need-mul-counts Inv-loop μ-loop
+mul-counts c = search needs
+
+array-read-counts : tie.Need-array-read-counts Inv-loop μ-loop
+array-read-counts c = search needs
+
+counts-requires : tie.Need-counts-requires Inv-loop μ-loop
+counts-requires c κs = search needs
+
+enum-known-v : tie.Need-enum-known-v Inv-loop μ-loop
+enum-known-v c = search needs
+
+returns : tie.Need-returns Inv-loop μ-loop
+returns c = search laws.ends
+
+enum-told : tie.Need-enum-told Inv-loop μ-loop
+enum-told c = search needs
+
+add-i : tie.Need-add-i Inv-loop μ-loop
+add-i c = search needs
+
+loop-less : tie.Need-loop-less Inv-loop μ-loop
+loop-less c = search needs
+
+loop-again : tie.Need-loop-again Inv-loop μ-loop
+loop-again c = (search needs, search laws.turn)
+
+returns-2 : tie.Need-returns-2 Inv-loop μ-loop
+returns-2 c = search laws.spent
+
+pub files-spec : {M : Type 1} → statement M
+files-spec =
+    tie.close
+    (tie.spec
+    Inv-loop
+    μ-loop
+    loop-holds
+    mul-counts
+    array-read-counts
+    counts-requires
+    enum-known-v
+    returns
+    enum-told
+    add-i
+    loop-less
+    loop-again
+    returns-2)

@@ -1,0 +1,80 @@
+// Checks 14 and 15: the lines of the catalogue.
+ghost use mathlib.Core.Path.{_≡_};
+ghost use Prim.Native.Nat.{ℕ, _-_, _≤_};
+ghost use Rattle.catalogue.specs.Catalogue.{catalogue, lineCount, inEdition, lineAt};
+ghost use Rattle.lines.specs.Lines.{lineCheck, lineIf, linesFrom, linesCheck};
+use catalogue::Line;
+use format::Section;
+use format::Verdict;
+use structure::Tagged;
+use structure::lookup::find_tag;
+
+// Checks 14 and 15 for one line.
+fn line_check(pkg: &[u8], section: Section, line: Line) -> Verdict
+    ensures { λ r. ⌜ r ≡ lineCheck (now (pkg .entry)) section line ⌝ }
+{
+    let found = find_tag(pkg, section, line.tag);
+    match found {
+        Tagged::Absent => {
+            if line.is_required() {
+                Verdict::Fail(14, line.tag)
+            } else {
+                Verdict::Pass
+            }
+        }
+        Tagged::Present(e) => {
+            if line.allows(e.ty, e.count) {
+                Verdict::Pass
+            } else {
+                Verdict::Fail(15, line.tag)
+            }
+        }
+    }
+}
+
+// The same, where the edition has the line.
+fn line_if(edition: u32, pkg: &[u8], section: Section, line: Line) -> Verdict
+    ensures { λ r. ⌜ r ≡ lineIf (inEdition edition) (now (pkg .entry)) section line ⌝ }
+{
+    if line.in_edition(edition) {
+        line_check(pkg, section, line)
+    } else {
+        Verdict::Pass
+    }
+}
+
+// Checks 14 and 15 for the lines from number `from` up to number `to`, in order.
+fn lines_from(
+    edition: u32,
+    table: [[u32; 4]; Line::ALL],
+    pkg: &[u8],
+    section: Section,
+    from: usize,
+    to: usize,
+) -> Verdict
+    requires { ⌜ (table ≡ catalogue) × (to ≤ lineCount) ⌝ }
+    ensures { λ r. ⌜ r ≡ linesFrom lineAt (inEdition edition) (now (pkg .entry)) section (to - from) from ⌝ }
+{
+    let mut i = from;
+    while i < to {
+        let numbers = table[i];
+        let v = line_if(edition, pkg, section, Line::of(numbers));
+        if let Verdict::Fail(number, place) = v {
+            return Verdict::Fail(number, place);
+        }
+        i += 1;
+    }
+    Verdict::Pass
+}
+
+// Checks 14 and 15: the signature's lines, then the header's.
+pub fn check(edition: u32, pkg: &[u8], signature: Section, header: Section) -> Verdict
+    ensures { λ r. ⌜ r ≡ linesCheck (inEdition edition) (now (pkg .entry)) signature header ⌝ }
+{
+    let table = catalogue::table();
+    let v = lines_from(edition, table, pkg, signature, 0, Line::SIGNATURE);
+    if let Verdict::Fail(number, place) = v {
+        return Verdict::Fail(number, place);
+    }
+    lines_from(edition, table, pkg, header, Line::SIGNATURE, Line::ALL)
+}

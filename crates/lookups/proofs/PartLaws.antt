@@ -1,0 +1,116 @@
+-- Elements of an entry as parts of the package, for each way through the functions that make them; where they start.
+use Prim.Native.Nat.{ℕ, _+_, _-_, _*_, _≤_, _<_}
+use mathlib.Core.Path.{_≡_, refl, sym, _∙_}
+use mathlib.Core.List.{List}
+use mathlib.Core.Bool.{Bool, true, false, cond}
+use lib.ListN.{length}
+use lib.Dec.{ltb}
+use native.Mathlib.Omega.{arith}
+use native.Mathlib.Nat.{mul-le-mul-left}
+use borrow.Author.Tests.{lt-ltb, le-ltb, ltb-true}
+use Rattle.strings.specs.declared.Ending.{Ending}
+use Rattle.strings.specs.declared.Ending.the-variants.{Ends, Open}
+use Rattle.strings.specs.Strings.{stringsFrom}
+use Rattle.strings.proofs.StringLaws.{bound}
+use Rattle.entries.specs.declared.types.ElementSize.{ElementSize}
+use Rattle.entries.specs.declared.types.ElementSize.the-variants.{Bytes, ToZero, Unlawful}
+use Rattle.structure.specs.declared.lookup.Entry.{Entry}
+use Rattle.entries.specs.Types.{elementSize}
+use Rattle.structure.specs.Lookup.{extentTo}
+use Rattle.structure.specs.Sound.{SoundEntry}
+use Rattle.lookups.specs.declared.lookup.Sought.{Sought}
+use Rattle.lookups.specs.declared.lookup.Sought.the-variants.{Here, Refused}
+use Rattle.lookups.specs.Lookup.{sought, stringPart, elementFor, elementOf, elementAs, soughtElement}
+use Rattle.lookups.proofs.SeekLaws.{sought-sound}
+
+-- a single string, by where the run before it ended
+module _ (s : List ℕ) (entry : Entry) {run : Ending} where
+  pub part-ends : {from n : ℕ} {next : Ending} → run ≡ Ends from
+      → next ≡ stringsFrom s (entry .at .0 + entry .extent - from) from 1 → n ≡ extentTo from next
+      → _≡_ {A = Entry} (record { ty = entry .ty; count = 1; at = record { 0 = from }; extent = n }) (stringPart s entry run)
+  part-ends h p q = rw (h, q, p)
+
+  pub part-open : run ≡ Open
+      → _≡_ {A = Entry} (record { ty = entry .ty; count = 1; at = entry .at; extent = 0 }) (stringPart s entry run)
+  part-open h = rw h
+
+-- an element, by the element size that was found
+module _ (s : List ℕ) (entry : Entry) (k : ℕ) {size : ElementSize} (p : size ≡ elementSize (entry .ty)) where
+  pub element-fixed : {n : ℕ} → size ≡ Bytes n
+      → _≡_ {A = Entry} (record { ty = entry .ty; count = 1; at = record { 0 = entry .at .0 + n * k }; extent = n }) (elementOf s entry k)
+  unfolding elementOf
+  element-fixed h = rw (← p, h)
+
+  pub element-string : {run : Ending} {r : Entry} {end : ℕ} → size ≡ ToZero → end ≡ entry .at .0 + entry .extent
+      → run ≡ stringsFrom s (end - entry .at .0) (entry .at .0) k → r ≡ stringPart s entry run → r ≡ elementOf s entry k
+  unfolding elementOf
+  element-string {end = end} h e q j =
+      let m : end - entry .at .0 ≡ entry .extent = omega arith in
+      rw (← p, h) (rw (q, m) at j)
+
+  pub element-unlawful : size ≡ Unlawful
+      → _≡_ {A = Entry} (record { ty = entry .ty; count = 1; at = entry .at; extent = 0 }) (elementOf s entry k)
+  unfolding elementOf
+  element-unlawful h = rw (← p, h)
+
+-- an element of a sound entry starts in the entry's data
+module _ (s : List ℕ) (len : ℕ) (entry : Entry) (sound : SoundEntry s len entry) (k : ℕ) (l : k < entry .count) where
+  from-run : (run : Ending) → stringsFrom s (entry .extent) (entry .at .0) k ≡ run
+      → stringPart s entry run .at .0 ≤ entry .at .0 + entry .extent
+  from-run (Ends from) h = let b = bound s (entry .extent) (entry .at .0) k from h in b .1
+  from-run Open h = omega arith
+
+  starts : (size : ElementSize) → elementSize (entry .ty) ≡ size
+      → elementFor size s entry k .at .0 ≤ entry .at .0 + entry .extent
+  starts (Bytes n) h =
+      let e = sound .fixed n h in
+      let m : k ≤ entry .count = omega arith in
+      let g : n * k ≤ n * entry .count = mul-le-mul-left n m in
+      omega arith
+  starts ToZero h = from-run (stringsFrom s (entry .extent) (entry .at .0) k) refl
+  starts Unlawful h = omega arith
+
+  pub element-starts : elementOf s entry k .at .0 ≤ entry .at .0 + entry .extent
+  unfolding elementOf
+  element-starts = starts (elementSize (entry .ty)) refl
+
+-- in the shape of what is known where an element look-up returns: r is what was sought
+module _ (s : List ℕ) (which tag ty k : ℕ) {r : Sought} (p : r ≡ sought s which tag ty) where
+  pub seek-refused : {number place : ℕ} → r ≡ Refused number place → Refused number place ≡ soughtElement s which tag ty k
+  unfolding soughtElement
+  seek-refused h = rw (sym p ∙ h)
+
+  pub seek-bounded : {entry : Entry} → r ≡ Here entry → entry .at .0 + entry .extent ≤ 65536
+  seek-bounded {entry} h =
+      let b = sought-sound s which tag ty entry (sym p ∙ h) in
+      let i = b .0 .inside in
+      omega arith
+
+  pub seek-element : {entry e : Entry} → r ≡ Here entry → k < entry .count → e ≡ elementOf s entry k
+      → Here e ≡ soughtElement s which tag ty k
+  unfolding soughtElement
+  seek-element {entry} h l q = rw (sym p ∙ h, lt-ltb k (entry .count) l, q)
+
+  pub seek-past : {entry : Entry} → r ≡ Here entry → entry .count ≤ k → Refused 26 0 ≡ soughtElement s which tag ty k
+  unfolding soughtElement
+  seek-past {entry} h l = rw (sym p ∙ h, le-ltb k (entry .count) l)
+
+-- an element that was sought starts at a 32-bit place
+as-small : (s : List ℕ) (which tag ty k : ℕ) (r : Sought) → sought s which tag ty ≡ r → (e : Entry) → elementAs s k r ≡ Here e
+    → e .at .0 < 4294967296
+as-small s which tag ty k (Here entry) h e q = go (ltb k (entry .count)) refl q
+  where
+    go : (b : Bool) → ltb k (entry .count) ≡ b → cond b (Here (elementOf s entry k)) (Refused 26 0) ≡ Here e → e .at .0 < 4294967296
+    go true t j =
+        let w : elementOf s entry k ≡ e = cc in
+        let b = sought-sound s which tag ty entry h in
+        let i = b .0 .inside in
+        let m = element-starts s (length s) entry (b .0) k (ltb-true k (entry .count) t) in
+        rw (← w) (omega arith)
+    go false t j = let z : _≡_ {A = ℕ} 0 1 = cc in omega arith
+as-small s which tag ty k (Refused number place) h e q = let z : _≡_ {A = ℕ} 0 1 = cc in omega arith
+
+pub element-small : (s : List ℕ) (which tag ty k : ℕ) {found : Sought} → found ≡ soughtElement s which tag ty k → (e : Entry)
+    → found ≡ Here e → e .at .0 < 4294967296
+unfolding soughtElement
+element-small s which tag ty k p e h = as-small s which tag ty k (sought s which tag ty) refl e (sym p ∙ h)

@@ -1,0 +1,90 @@
+-- Look-ups: what they come to, by what was searched; what they find is sound.
+use Prim.Native.Nat.{ℕ, _≤_, _<_}
+use mathlib.Core.Path.{_≡_, refl, sym, _∙_}
+use mathlib.Core.List.{List, []}
+use mathlib.Core.Bool.{Bool, true, false, cond}
+use lib.ListN.{length}
+use lib.Dec.{eqb}
+use native.Mathlib.Omega.{arith}
+use Rattle.format.specs.declared.places.Section.{Section}
+use Rattle.format.specs.declared.verdict.Verdict.{Verdict}
+use Rattle.format.specs.declared.verdict.Verdict.the-variants.{Pass, Fail}
+use Rattle.format.specs.declared.verdict.Answer.the-variants as answer
+use Rattle.structure.specs.declared.lookup.Entry.{Entry}
+use Rattle.structure.specs.declared.lookup.Found.{Found}
+use Rattle.structure.specs.declared.lookup.Found.the-variants.{At, Nothing}
+use Rattle.structure.specs.Lookup.{findIn}
+use Rattle.structure.specs.Sound.{SoundEntry}
+use Rattle.structure.proofs.SoundLaws.{found-sound, sound-longer}
+use Rattle.package.specs.declared.sound.Searched.{Searched}
+use Rattle.package.specs.declared.sound.Searched.the-variants as searched′
+use Rattle.lookups.specs.declared.lookup.Sought.{Sought}
+use Rattle.lookups.specs.declared.lookup.Sought.the-variants.{Here, Refused}
+use Rattle.package.specs.Package.{signatureAt, headerAt, structureOf, soundCheck, searched}
+use Rattle.lookups.specs.Lookup.{soughtAs, sought, soughtBytes, soughtAnswer}
+use Rattle.package.proofs.OpenLaws.{within, refused, sound-size, sound-signature, sound-header}
+
+-- in the shape of what is known where a look-up returns: r is what was searched
+module _ (s : List ℕ) (which tag ty : ℕ) {r : Searched} (p : r ≡ searched s which tag ty) where
+  pub seek-refused : {number place : ℕ} → r ≡ searched′.Refused number place → Refused number place ≡ sought s which tag ty
+  unfolding sought
+  seek-refused h =
+      rw (refused (soundCheck s) (signatureAt s) (headerAt s) (findIn s (structureOf s which) tag ty) (sym p ∙ h))
+
+  module _ {signature header : Section} {found : Found} (h : r ≡ searched′.Within signature header found) where
+    all-sound : (soundCheck s ≡ Pass) × (signatureAt s ≡ signature) × (headerAt s ≡ header)
+        × (findIn s (structureOf s which) tag ty ≡ found)
+    all-sound = within (soundCheck s) (signatureAt s) (headerAt s) (findIn s (structureOf s which) tag ty) (sym p ∙ h)
+
+    pub seek-here : {entry : Entry} → found ≡ At entry → Here entry ≡ sought s which tag ty
+    unfolding sought
+    seek-here k = rw (all-sound .0, all-sound .3 ∙ k)
+
+    pub seek-nothing : found ≡ Nothing → Refused 25 0 ≡ sought s which tag ty
+    unfolding sought
+    seek-nothing k = rw (all-sound .0, all-sound .3 ∙ k)
+
+pub bytes-refused : (s : List ℕ) {found : Sought} {number place : ℕ} → found ≡ Refused number place → [] ≡ soughtBytes s found
+bytes-refused s h = rw h
+
+pub bytes-here : (s : List ℕ) {found : Sought} {entry : Entry} {l : List ℕ} → found ≡ Here entry → l ≡ soughtBytes s (Here entry)
+    → l ≡ soughtBytes s found
+bytes-here s h k = rw h k
+
+pub answer-here : {found : Sought} {entry : Entry} → found ≡ Here entry → answer.Done (entry .at .0) ≡ soughtAnswer found
+answer-here h = rw h
+
+pub answer-refused : {found : Sought} {number place : ℕ} → found ≡ Refused number place
+    → answer.Refused number place ≡ soughtAnswer found
+answer-refused h = rw h
+
+-- an entry that was found is sound
+found-in : (s : List ℕ) (section : Section) (tag ty : ℕ) (entry : Entry) (b : Bool) → soundCheck s ≡ Pass
+    → section ≡ cond b (signatureAt s) (headerAt s) → findIn s section tag ty ≡ At entry → SoundEntry s (length s) entry
+found-in s section tag ty entry true h e f = found-sound s (length s) _ tag ty entry (sound-signature s h) (rw e at f)
+found-in s section tag ty entry false h e f = found-sound s (length s) _ tag ty entry (sound-header s h) (rw e at f)
+
+pub header-found : (s : List ℕ) (tag ty : ℕ) (entry : Entry) → soundCheck s ≡ Pass → findIn s (headerAt s) tag ty ≡ At entry
+    → SoundEntry s 65536 entry
+header-found s tag ty entry h f =
+    sound-longer s (length s) 65536 entry (found-in s (headerAt s) tag ty entry false h refl f) (sound-size s h)
+
+as-here : (v : Verdict) (found : Found) (entry : Entry) → soughtAs v found ≡ Here entry → (v ≡ Pass) × (found ≡ At entry)
+as-here Pass (At x) entry h = (refl, cc)
+as-here Pass Nothing entry h = let z : _≡_ {A = ℕ} 0 1 = cc in absurd (omega arith)
+as-here (Fail number place) found entry h = let z : _≡_ {A = ℕ} 0 1 = cc in absurd (omega arith)
+
+pub sought-sound : (s : List ℕ) (which tag ty : ℕ) (entry : Entry) → sought s which tag ty ≡ Here entry
+    → (SoundEntry s (length s) entry) × (length s ≤ 65536)
+unfolding sought
+sought-sound s which tag ty entry h =
+    let k = as-here (soundCheck s) (findIn s (structureOf s which) tag ty) entry h in
+    (found-in s (structureOf s which) tag ty entry (eqb which 0) (k .0) refl (k .1), sound-size s (k .0))
+
+-- it starts at a 32-bit place
+pub sought-small : (s : List ℕ) (which tag ty : ℕ) {found : Sought} → found ≡ sought s which tag ty → (entry : Entry)
+    → found ≡ Here entry → entry .at .0 < 4294967296
+sought-small s which tag ty p entry h =
+    let k = sought-sound s which tag ty entry (sym p ∙ h) in
+    let b = k .0 .inside in
+    omega arith

@@ -1,4 +1,0 @@
-pub mod TestLaws
-pub mod LinesLaws
-pub mod GroupsLaws
-pub mod TextsLaws

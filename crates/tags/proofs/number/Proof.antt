@@ -1,0 +1,45 @@
+-- By whether a record has the tag.
+-- Assumes nothing.
+use mathlib.Core.Path.{ap, _∙_, refl}
+use borrow.Author.Needs.{needs}
+use Rattle.be.specs.Numbers.{be32At}
+use Rattle.structure.specs.Lookup.{taggedIn}
+use Rattle.tags.specs.Tags.{numberAt}
+use Rattle.tags.proofs.TestLaws.{by-case}
+use Rattle.tags.proofs.number.Statement.{statement}
+use Rattle.tags.proofs.number.Tie as tie
+
+find-tag-requires : tie.Need-find-tag-requires
+find-tag-requires c κs = search needs
+
+enum-known-found : tie.Need-enum-known-found
+enum-known-found c = search needs
+
+in-file-requires : tie.Need-in-file-requires
+in-file-requires c κs = search needs
+
+be32-requires : tie.Need-be32-requires
+be32-requires c κs = search needs
+
+enum-told : tie.Need-enum-told
+enum-told c = search needs
+
+returns : tie.Need-returns
+returns c =
+    by-case (numberAt _ _) (taggedIn _ _ _) (search) (c .before .before .before .found .given .1)
+    (c .be32 .ensures ∙ ap (be32At _) (c .before .in-file .ensures))
+
+returns-2 : tie.Need-returns-2
+returns-2 c = by-case (numberAt _ _) (taggedIn _ _ _) (search) (c .enum-told .given .1) refl
+
+pub number-spec : {M : Type 1} → statement M
+number-spec =
+    tie.close
+    (tie.spec
+    find-tag-requires
+    enum-known-found
+    in-file-requires
+    be32-requires
+    enum-told
+    returns
+    returns-2)

@@ -1,0 +1,122 @@
+-- Laws of the texts' scans, one for each way through a turn (below-turn, below-ends, below-spent; slash-zero,
+-- slash-other, slash-ends, slash-spent), of 1116's numbers as they are found (below-present, below-absent), and of
+-- where an entry ends (extent-le).
+use Prim.Native.Nat.{ℕ, suc, _+_, _-_, _*_, _≤_, _<_}
+use mathlib.Core.Path.{_≡_, refl, sym, ap, _∙_}
+use mathlib.Core.List.{List}
+use mathlib.Core.Bool.{Bool, true, false, cond, _&&_}
+use lib.Dec.{eqb, ltb, leb}
+use lib.ListN.{getD}
+use native.Mathlib.Omega.{arith}
+use borrow.Author.Tests.{eq-eqb, ne-eqb, lt-ltb, le-ltb, leb-true}
+use Rattle.strings.specs.declared.Ending.{Ending}
+use Rattle.strings.specs.declared.Ending.the-variants.{Ends, Open}
+use Rattle.be.specs.Numbers.{be32At}
+use Rattle.strings.specs.Strings.{stringsFrom}
+use Rattle.strings.proofs.StringLaws.{bound}
+use Rattle.format.specs.declared.places.Section.{Section}
+use Rattle.format.specs.declared.records.IndexRecord.{IndexRecord}
+use Rattle.format.specs.Places.{inFile, sectionEnd}
+use Rattle.entries.specs.declared.types.ElementSize.{ElementSize}
+use Rattle.entries.specs.declared.types.ElementSize.the-variants.{Bytes, ToZero, Unlawful}
+use Rattle.structure.specs.declared.lookup.Entry.{Entry}
+use Rattle.structure.specs.declared.lookup.Found.{Found}
+use Rattle.structure.specs.declared.lookup.Found.the-variants.{At}
+use Rattle.structure.specs.declared.lookup.Tagged.{Tagged}
+use Rattle.structure.specs.declared.lookup.Tagged.the-variants.{Present, Absent}
+use Rattle.entries.specs.Types.{elementSize}
+use Rattle.entries.specs.Entries.{endFor, dataEnd}
+use Rattle.structure.specs.Lookup.{extentTo, entryOf, entryFor, taggedIn}
+use Rattle.tags.specs.Tags.{countIn}
+use Rattle.texts.specs.Texts.{allBelow, indexesBelow, slashesEnd}
+
+-- v is what the scan began with, left what is left of it
+module _ (s : List ℕ) (limit : ℕ) where
+  below-step : (n i : ℕ) → allBelow s limit (suc n) i ≡ (ltb (be32At s i) limit && allBelow s limit n (i + 4))
+  unfolding allBelow
+  below-step n i = refl
+
+  module _ (left i : ℕ) {v : Bool} (inv : v ≡ allBelow s limit left i) where
+    below-unrolled : 0 < left → v ≡ (ltb (be32At s i) limit && allBelow s limit (left - 1) (i + 4))
+    below-unrolled l =
+        let k : left ≡ suc (left - 1) = omega arith in
+        inv ∙ ap (λ (n : ℕ). allBelow s limit n i) k ∙ below-step (left - 1) i
+
+    pub below-turn : {r : ℕ} → r ≡ be32At s i → r < limit → 0 < left → v ≡ allBelow s limit (left - 1) (i + 4)
+    below-turn q h l = below-unrolled l ∙ rw (lt-ltb (be32At s i) limit (omega arith))
+
+    pub below-ends : {r : ℕ} → r ≡ be32At s i → limit ≤ r → 0 < left → false ≡ v
+    below-ends q h l = sym (below-unrolled l ∙ rw (le-ltb (be32At s i) limit (omega arith)))
+
+    pub below-spent : left ≤ 0 → true ≡ v
+    unfolding allBelow
+    below-spent l = let k : left ≡ 0 = omega arith in sym (rw k at inv)
+
+-- by whether 1116 was found: r is what the search found
+module _ (s : List ℕ) (header : Section) {r : Tagged} (p : r ≡ taggedIn s header 1116) where
+  pub below-present : {limit at : ℕ} {e : IndexRecord} {v : Bool} → limit ≡ countIn s header 1118 → r ≡ Present e
+      → at ≡ inFile header (e .offset) → v ≡ allBelow s limit (e .count) at → v ≡ indexesBelow s header
+  below-present l h q k = rw (sym p ∙ h, ← l) (rw q at k)
+
+  pub below-absent : r ≡ Absent → true ≡ indexesBelow s header
+  below-absent h = rw (sym p ∙ h)
+
+-- b is the byte that was read, last the one before it
+module _ (s : List ℕ) where
+  slash-step : (last n i : ℕ) → slashesEnd s last (suc n) i
+      ≡ (cond (eqb (getD s i 0) 0) (eqb last 0x2F) true && slashesEnd s (getD s i 0) n (i + 1))
+  unfolding slashesEnd
+  slash-step last n i = refl
+
+  module _ (last left i : ℕ) {v : Bool} (inv : v ≡ slashesEnd s last left i) where
+    slash-unrolled : {b : ℕ} → b ≡ getD s i 0 → 0 < left
+        → v ≡ (cond (eqb b 0) (eqb last 0x2F) true && slashesEnd s b (left - 1) (i + 1))
+    slash-unrolled q l =
+        let k : left ≡ suc (left - 1) = omega arith in
+        rw q (inv ∙ ap (λ (n : ℕ). slashesEnd s last n i) k ∙ slash-step last (left - 1) i)
+
+    pub slash-zero : {b : ℕ} → b ≡ getD s i 0 → 0 < left → b ≡ 0 → last ≡ 0x2F → v ≡ slashesEnd s b (left - 1) (i + 1)
+    slash-zero {b} q l h k = slash-unrolled q l ∙ rw (eq-eqb b 0 h, eq-eqb last 0x2F k)
+
+    pub slash-other : {b : ℕ} → b ≡ getD s i 0 → 0 < left → (b ≡ 0 → ⊥) → v ≡ slashesEnd s b (left - 1) (i + 1)
+    slash-other {b} q l h = slash-unrolled q l ∙ rw (ne-eqb b 0 h)
+
+    pub slash-ends : {b : ℕ} → b ≡ getD s i 0 → 0 < left → b ≡ 0 → (last ≡ 0x2F → ⊥) → false ≡ v
+    slash-ends {b} q l h k = sym (slash-unrolled q l ∙ rw (eq-eqb b 0 h, ne-eqb last 0x2F k))
+
+    pub slash-spent : left ≤ 0 → true ≡ v
+    unfolding slashesEnd
+    slash-spent l = let k : left ≡ 0 = omega arith in sym (rw k at inv)
+
+-- an entry's data ends where its structure does, or before
+module _ (s : List ℕ) (section : Section) (e : IndexRecord) where
+  strings-le : (end : Ending)
+      → stringsFrom s (section .hsize - e .offset .0) (inFile section (e .offset)) (e .count) ≡ end
+      → extentTo (inFile section (e .offset)) end ≤ sectionEnd section - inFile section (e .offset)
+  strings-le (Ends to) h =
+      let b = bound s (section .hsize - e .offset .0) (inFile section (e .offset)) (e .count) to h in
+      omega arith
+  strings-le Open h = omega arith
+
+  end-le : (size : ElementSize)
+      → extentTo (inFile section (e .offset)) (endFor size s section e)
+      ≤ sectionEnd section - inFile section (e .offset)
+  end-le (Bytes n) = go (leb (e .offset .0 + n * e .count) (section .hsize)) refl
+    where
+      go : (b : Bool) → leb (e .offset .0 + n * e .count) (section .hsize) ≡ b
+          → extentTo (inFile section (e .offset)) (cond b (Ends (inFile section (e .offset) + n * e .count)) Open)
+          ≤ sectionEnd section - inFile section (e .offset)
+      go true l =
+          let k : e .offset .0 + n * e .count ≤ section .hsize = leb-true _ _ l in
+          omega arith
+      go false l = omega arith
+  end-le ToZero = strings-le _ refl
+  end-le Unlawful = omega arith
+
+pub extent-le : (s : List ℕ) (section : Section) (t : Tagged) {f : Found} {entry : Entry} → f ≡ entryFor s section t
+    → f ≡ At entry → entry .extent ≤ sectionEnd section - entry .at .0
+unfolding dataEnd
+extent-le s section (Present e) {entry = entry} p h =
+    let q : entryOf section e (dataEnd s section e) ≡ entry = cc in
+    rw (← q) (end-le s section e (elementSize (e .ty)))
+extent-le s section Absent p h = let z : _≡_ {A = ℕ} 0 1 = cc in absurd (omega arith)

@@ -1,0 +1,55 @@
+-- The numbers that are left decide; a place below 2^40 has room for 2^32 numbers.
+-- Assumes nothing.
+use Prim.Native.Nat.{_+_, _*_}
+use mathlib.Core.Path.{_≡_}
+use borrow.Author.Needs.{needs}
+use Rattle.texts.specs.Texts.{allBelow}
+use Rattle.texts.proofs.TextsLaws as laws
+use Rattle.texts.proofs.all_below.Statement.{statement}
+use Rattle.texts.proofs.all_below.Tie as tie
+
+abbrev Inv-loop : tie.InvT-loop
+Inv-loop pkg limit n at left₀ i₀ left i = (i + 4 * left ≡ at + 4 * n)
+    × (allBelow pkg limit n at ≡ allBelow pkg limit left i)
+
+abbrev μ-loop : tie.MeasureT-loop
+μ-loop pkg limit n at left₀ i₀ left i = left
+
+loop-holds : tie.Need-loop-holds Inv-loop μ-loop
+loop-holds c = search needs
+
+be32-requires : tie.Need-be32-requires Inv-loop μ-loop
+be32-requires c κs = search needs
+
+returns : tie.Need-returns Inv-loop μ-loop
+returns c = search laws.below-ends
+
+add-i : tie.Need-add-i Inv-loop μ-loop
+add-i c = search needs
+
+sub-left : tie.Need-sub-left Inv-loop μ-loop
+sub-left c = search needs
+
+loop-less : tie.Need-loop-less Inv-loop μ-loop
+loop-less c = search needs
+
+loop-again : tie.Need-loop-again Inv-loop μ-loop
+loop-again c = (search needs, search laws.below-turn)
+
+returns-2 : tie.Need-returns-2 Inv-loop μ-loop
+returns-2 c = search laws.below-spent
+
+pub all-below-spec : {M : Type 1} → statement M
+all-below-spec =
+    tie.close
+    (tie.spec
+    Inv-loop
+    μ-loop
+    loop-holds
+    be32-requires
+    returns
+    add-i
+    sub-left
+    loop-less
+    loop-again
+    returns-2)

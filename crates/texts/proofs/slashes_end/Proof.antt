@@ -1,0 +1,56 @@
+-- The bytes that are left decide, with the byte before them.
+-- Assumes nothing.
+use Prim.Native.Nat.{_+_}
+use mathlib.Core.Logic.{⊎-elim}
+use mathlib.Core.Path.{_≡_}
+use borrow.Author.Needs.{needs}
+use Rattle.texts.specs.Texts.{slashesEnd}
+use Rattle.texts.proofs.TextsLaws as laws
+use Rattle.texts.proofs.slashes_end.Statement.{statement}
+use Rattle.texts.proofs.slashes_end.Tie as tie
+
+abbrev Inv-loop : tie.InvT-loop
+Inv-loop pkg n at last₀ rest₀ i₀ last rest i = (i + rest ≡ at + n)
+    × (slashesEnd pkg 0 n at ≡ slashesEnd pkg last rest i)
+
+abbrev μ-loop : tie.MeasureT-loop
+μ-loop pkg n at last₀ rest₀ i₀ last rest i = rest
+
+loop-holds : tie.Need-loop-holds Inv-loop μ-loop
+loop-holds c = search needs
+
+byte-at-requires : tie.Need-byte-at-requires Inv-loop μ-loop
+byte-at-requires c κs = search needs
+
+returns : tie.Need-returns Inv-loop μ-loop
+returns c = search laws.slash-ends
+
+add-i : tie.Need-add-i Inv-loop μ-loop
+add-i c = search needs
+
+sub-rest : tie.Need-sub-rest Inv-loop μ-loop
+sub-rest c = search needs
+
+loop-less : tie.Need-loop-less Inv-loop μ-loop
+loop-less c = search needs
+
+loop-again : tie.Need-loop-again Inv-loop μ-loop
+loop-again c = (search needs, ⊎-elim (λ w. search laws.slash-zero) (λ w. search laws.slash-other) (c .if1 .came))
+
+returns-2 : tie.Need-returns-2 Inv-loop μ-loop
+returns-2 c = search laws.slash-spent
+
+pub slashes-end-spec : {M : Type 1} → statement M
+slashes-end-spec =
+    tie.close
+    (tie.spec
+    Inv-loop
+    μ-loop
+    loop-holds
+    byte-at-requires
+    returns
+    add-i
+    sub-rest
+    loop-less
+    loop-again
+    returns-2)
