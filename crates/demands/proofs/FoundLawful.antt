@@ -9,13 +9,13 @@ use Rattle.be.specs.Numbers.{be32At}
 use Rattle.format.specs.declared.places.Section.{Section}
 use Rattle.format.specs.declared.records.IndexRecord.{IndexRecord}
 use Rattle.format.specs.Places.{inFile}
-use Rattle.structure.specs.declared.lookup.Entry.{Entry}
-use Rattle.structure.specs.declared.lookup.Found.{Found}
-use Rattle.structure.specs.declared.lookup.Found.the-variants.{At, Nothing}
-use Rattle.structure.specs.declared.lookup.Tagged.{Tagged}
-use Rattle.structure.specs.declared.lookup.Tagged.the-variants.{Present, Absent}
+use Rattle.index.specs.declared.Entry.{Entry}
+use Rattle.index.specs.declared.Found.{Found}
+use Rattle.index.specs.declared.Found.the-variants.{At, Nothing}
+use Rattle.index.specs.declared.Tagged.{Tagged}
+use Rattle.index.specs.declared.Tagged.the-variants.{Present, Absent}
 use Rattle.entries.specs.Entries.{recordAt, dataEnd}
-use Rattle.structure.specs.Lookup.{entryOf, taggedIn, entryFor}
+use Rattle.index.specs.Lookup.{entryOf, taggedIn, entryFor}
 use Rattle.tags.specs.Tags.{isPresent, countOf, has, countIn, numberAt, numberIn}
 use Rattle.texts.specs.Texts.{entryIn}
 use Rattle.demands.specs.Lawful.{HasTag, WhereTagged, HasCount, SameCount, DataIs}

@@ -9,9 +9,9 @@ use Rattle.format.specs.declared.places.Section.{Section}
 use Rattle.format.specs.declared.verdict.Verdict.{Verdict}
 use Rattle.format.specs.declared.verdict.Verdict.the-variants.{Pass, Fail}
 use Rattle.format.specs.Verdicts.{check}
-use Rattle.structure.specs.declared.lookup.Tagged.{Tagged}
-use Rattle.structure.specs.declared.lookup.Tagged.the-variants.{Present, Absent}
-use Rattle.structure.specs.Lookup.{taggedIn}
+use Rattle.index.specs.declared.Tagged.{Tagged}
+use Rattle.index.specs.declared.Tagged.the-variants.{Present, Absent}
+use Rattle.index.specs.Lookup.{taggedIn}
 use Rattle.catalogue.specs.declared.Line.{Line}
 use Rattle.catalogue.specs.Catalogue.{isRequired, isAsLine}
 use Rattle.lines.specs.Lines.{lineCheckAs, lineCheck, lineIf}

@@ -10,10 +10,10 @@ use native.Mathlib.Omega.{arith}
 use borrow.Author.Tests.{eqb-true, eqb-false}
 use Rattle.format.specs.declared.places.Section.{Section}
 use Rattle.format.specs.declared.records.IndexRecord.{IndexRecord}
-use Rattle.structure.specs.declared.lookup.Tagged.{Tagged}
-use Rattle.structure.specs.declared.lookup.Tagged.the-variants.{Present, Absent}
+use Rattle.index.specs.declared.Tagged.{Tagged}
+use Rattle.index.specs.declared.Tagged.the-variants.{Present, Absent}
 use Rattle.entries.specs.Entries.{recordAt}
-use Rattle.structure.specs.Lookup.{taggedFrom, taggedIn}
+use Rattle.index.specs.Lookup.{taggedFrom, taggedIn}
 use Rattle.tags.specs.Tags.{isPresent}
 use Rattle.demands.specs.Lawful.{HasTag, WhereTagged}
 

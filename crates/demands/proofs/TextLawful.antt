@@ -13,8 +13,8 @@ use Rattle.be.proofs.SameLaws.{same-eq, same-refl}
 use Rattle.format.specs.declared.places.Section.{Section}
 use Rattle.format.specs.declared.records.IndexRecord.{IndexRecord}
 use Rattle.format.specs.declared.verdict.Verdict.the-variants.{Pass}
-use Rattle.structure.specs.declared.lookup.Entry.{Entry}
-use Rattle.structure.specs.declared.lookup.Found.{Found}
+use Rattle.index.specs.declared.Entry.{Entry}
+use Rattle.index.specs.declared.Found.{Found}
 use Rattle.tags.specs.Tags.{countIn}
 use Rattle.texts.specs.Texts.{foundText, textIs, allBelow, foundBelow, indexesBelow}
 use Rattle.texts.specs.Texts.{slashesEnd, foundSlashes, directoriesEnd, textsCheck}

@@ -13,12 +13,12 @@ use Rattle.format.specs.Sizes.{packageLimit, leadSize}
 use Rattle.format.specs.Places.{inFile}
 use Rattle.format.specs.Records.{headerRecordAt}
 use Rattle.entries.specs.declared.types.ElementSize.the-variants.{Bytes, ToZero}
-use Rattle.structure.specs.declared.lookup.Entry.{Entry}
+use Rattle.index.specs.declared.Entry.{Entry}
 use Rattle.entries.specs.Types.{elementSize}
 use Rattle.entries.specs.Entries.{recordAt}
 use Rattle.structure.specs.Structure.{sectionAt}
 use Rattle.structure.specs.Sound.{SoundHeader}
-use Rattle.structure.specs.Lookup.{entryAt}
+use Rattle.index.specs.Lookup.{entryAt}
 use Rattle.package.specs.Package.{headerStart, signatureAt, headerAt}
 use Rattle.catalogue.specs.declared.Line.{Line}
 use Rattle.catalogue.specs.Catalogue.{lineAt, signatureCount, lineCount}

@@ -107,7 +107,7 @@ pub(crate) fn put_required(pkg: &[u8]) {
         put(b"\n");
         return;
     }
-    put_hex(lookups::required_version(pkg, &name[..n]));
+    put_hex(required::required_version(pkg, &name[..n]));
 }
 
 pub(crate) fn put_usage() {

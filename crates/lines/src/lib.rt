@@ -6,8 +6,8 @@ ghost use Rattle.lines.specs.Lines.{lineCheck, lineIf, linesFrom, linesC
 use catalogue::Line;
 use format::Section;
 use format::Verdict;
-use structure::Tagged;
-use structure::lookup::find_tag;
+use index::Tagged;
+use index::find_tag;
 
 // Checks 14 and 15 for one line.
 fn line_check(pkg: &[u8], section: Section, line: Line) -> Verdict

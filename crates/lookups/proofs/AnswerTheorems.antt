@@ -13,13 +13,13 @@ use Rattle.format.specs.declared.verdict.Verdict.{Verdict}
 use Rattle.format.specs.declared.verdict.Verdict.the-variants.{Pass, Fail}
 use Rattle.format.specs.Places.{sectionEnd}
 use Rattle.format.specs.Verdicts.{numberOf}
-use Rattle.structure.specs.declared.lookup.Entry.{Entry}
-use Rattle.structure.specs.declared.lookup.Found.{Found}
-use Rattle.structure.specs.declared.lookup.Found.the-variants.{At, Nothing}
+use Rattle.index.specs.declared.Entry.{Entry}
+use Rattle.index.specs.declared.Found.{Found}
+use Rattle.index.specs.declared.Found.the-variants.{At, Nothing}
 use Rattle.structure.specs.Sound.{SoundEntry}
-use Rattle.structure.specs.Lookup.{findIn}
-use Rattle.lookups.specs.declared.lookup.Sought.{Sought}
-use Rattle.lookups.specs.declared.lookup.Sought.the-variants.{Here, Refused}
+use Rattle.index.specs.Lookup.{findIn}
+use Rattle.lookups.specs.declared.Sought.{Sought}
+use Rattle.lookups.specs.declared.Sought.the-variants.{Here, Refused}
 use Rattle.package.specs.Package.{soundCheck, structureOf}
 use Rattle.lookups.specs.Lookup.{soughtAs, sought, entryBytes, soughtBytes, soughtAnswer}
 use Rattle.lookups.specs.Lookup.{elementOf, elementAs, soughtElement}

@@ -9,10 +9,10 @@ use lib.ListN.{length}
 use native.Mathlib.Omega.{arith}
 use borrow.Author.Tests.{lt-ltb, ltb-true}
 use Rattle.format.specs.Places.{sectionEnd}
-use Rattle.structure.specs.declared.lookup.Entry.{Entry}
+use Rattle.index.specs.declared.Entry.{Entry}
 use Rattle.structure.specs.Sound.{SoundEntry}
-use Rattle.lookups.specs.declared.lookup.Sought.{Sought}
-use Rattle.lookups.specs.declared.lookup.Sought.the-variants.{Here, Refused}
+use Rattle.lookups.specs.declared.Sought.{Sought}
+use Rattle.lookups.specs.declared.Sought.the-variants.{Here, Refused}
 use Rattle.package.specs.Package.{structureOf}
 use Rattle.lookups.specs.Lookup.{sought, elementOf, elementAs, soughtElement}
 use Rattle.lookups.proofs.FoundLaws.{structure-fits, record-of-found, found-sound}

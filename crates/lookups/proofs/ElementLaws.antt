@@ -14,11 +14,11 @@ use Rattle.strings.proofs.RowLaws.{string-at}
 use Rattle.format.specs.Places.{sectionEnd}
 use Rattle.entries.specs.declared.types.ElementSize.{ElementSize}
 use Rattle.entries.specs.declared.types.ElementSize.the-variants.{Bytes, ToZero, Unlawful}
-use Rattle.structure.specs.declared.lookup.Entry.{Entry}
+use Rattle.index.specs.declared.Entry.{Entry}
 use Rattle.entries.specs.Types.{elementSize}
-use Rattle.structure.specs.Lookup.{extentTo, entryAt}
+use Rattle.index.specs.Lookup.{extentTo, entryAt}
 use Rattle.structure.specs.Sound.{SoundEntry}
-use Rattle.lookups.specs.declared.lookup.Sought.the-variants.{Here}
+use Rattle.lookups.specs.declared.Sought.the-variants.{Here}
 use Rattle.package.specs.Package.{structureOf}
 use Rattle.lookups.specs.Lookup.{sought, entryBytes, soughtBytes, elementOf}
 use Rattle.lookups.specs.Theorems.{elementsFrom, ElementsInARow, elementsShown, ElementsShown}

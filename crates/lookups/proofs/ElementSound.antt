@@ -10,7 +10,7 @@ use Rattle.strings.proofs.StringLaws.{bound, positive, tight}
 use Rattle.strings.proofs.RowLaws.{string-at}
 use Rattle.entries.specs.declared.types.ElementSize.{ElementSize}
 use Rattle.entries.specs.declared.types.ElementSize.the-variants.{Bytes, ToZero, Unlawful}
-use Rattle.structure.specs.declared.lookup.Entry.{Entry}
+use Rattle.index.specs.declared.Entry.{Entry}
 use Rattle.entries.specs.Types.{elementSize}
 use Rattle.structure.specs.Sound.{SoundEntry}
 use Rattle.entries.proofs.TypeLaws.{bytes-small}

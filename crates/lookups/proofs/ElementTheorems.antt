@@ -8,11 +8,11 @@ use native.Mathlib.Omega.{arith}
 use Rattle.be.proofs.ByteLaws.{length-part}
 use Rattle.format.specs.declared.verdict.Verdict.the-variants.{Pass}
 use Rattle.format.specs.Places.{sectionEnd}
-use Rattle.structure.specs.declared.lookup.Entry.{Entry}
+use Rattle.index.specs.declared.Entry.{Entry}
 use Rattle.entries.specs.Entries.{recordAt}
-use Rattle.structure.specs.Lookup.{entryAt}
-use Rattle.lookups.specs.declared.lookup.Sought.{Sought}
-use Rattle.lookups.specs.declared.lookup.Sought.the-variants.{Here, Refused}
+use Rattle.index.specs.Lookup.{entryAt}
+use Rattle.lookups.specs.declared.Sought.{Sought}
+use Rattle.lookups.specs.declared.Sought.the-variants.{Here, Refused}
 use Rattle.package.specs.Package.{soundCheck, structureOf}
 use Rattle.lookups.specs.Lookup.{soughtBytes, soughtAnswer, soughtElement, elementOf}
 use Rattle.lookups.specs.Theorems.{RecordFor, ElementExact, ElementShows}

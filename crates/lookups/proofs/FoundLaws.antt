@@ -12,16 +12,16 @@ use Rattle.format.specs.declared.verdict.Verdict.the-variants.{Pass, Fail}
 use Rattle.format.specs.Sizes.{leadSize}
 use Rattle.format.specs.Places.{sectionEnd}
 use Rattle.format.proofs.VerdictLaws.{both-inverted}
-use Rattle.structure.specs.declared.lookup.Entry.{Entry}
-use Rattle.structure.specs.declared.lookup.Found.{Found}
-use Rattle.structure.specs.declared.lookup.Found.the-variants.{At, Nothing}
+use Rattle.index.specs.declared.Entry.{Entry}
+use Rattle.index.specs.declared.Found.{Found}
+use Rattle.index.specs.declared.Found.the-variants.{At, Nothing}
 use Rattle.entries.specs.Entries.{recordAt, recordCheck}
 use Rattle.structure.specs.Structure.{structureCheck}
 use Rattle.structure.specs.Sound.{SoundEntry}
-use Rattle.structure.specs.Lookup.{entryAt}
+use Rattle.index.specs.Lookup.{entryAt}
 use Rattle.structure.proofs.PassLaws.{structure-header, structure-record}
 use Rattle.structure.proofs.SoundLaws.{record-sound, found-record, record-found}
-use Rattle.lookups.specs.declared.lookup.Sought.the-variants.{Here}
+use Rattle.lookups.specs.declared.Sought.the-variants.{Here}
 use Rattle.package.specs.Package.{signatureAt, headerStart, headerAt, structureOf}
 use Rattle.package.specs.Package.{structuresCheck, packageCheck, soundCheck}
 use Rattle.lookups.specs.Lookup.{soughtAs, sought}

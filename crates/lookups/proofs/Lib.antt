@@ -1,6 +1,5 @@
 pub mod SeekLaws
 pub mod PartLaws
-pub mod VersionLaws
 pub mod FoundLaws
 pub mod ElementSound
 pub mod ElementFound

@@ -7,11 +7,11 @@ use lib.ListN.{length}
 use native.Mathlib.Omega.{arith}
 use Rattle.be.proofs.ByteLaws.{length-part}
 use Rattle.format.specs.declared.verdict.Verdict.the-variants.{Pass}
-use Rattle.structure.specs.declared.lookup.Found.{Found}
-use Rattle.structure.specs.declared.lookup.Found.the-variants.{At, Nothing}
-use Rattle.structure.specs.Lookup.{entryAt, findIn}
-use Rattle.lookups.specs.declared.lookup.Sought.{Sought}
-use Rattle.lookups.specs.declared.lookup.Sought.the-variants.{Here, Refused}
+use Rattle.index.specs.declared.Found.{Found}
+use Rattle.index.specs.declared.Found.the-variants.{At, Nothing}
+use Rattle.index.specs.Lookup.{entryAt, findIn}
+use Rattle.lookups.specs.declared.Sought.{Sought}
+use Rattle.lookups.specs.declared.Sought.the-variants.{Here, Refused}
 use Rattle.package.specs.Package.{soundCheck, structureOf}
 use Rattle.lookups.specs.Lookup.{soughtAs, sought, soughtBytes, soughtAnswer, findBytes}
 use Rattle.lookups.specs.Theorems.{RecordFor, LookupExact, LookupRefuses, LookupShows, TagsOnce}

@@ -14,12 +14,12 @@ use Rattle.strings.specs.Strings.{stringsFrom}
 use Rattle.strings.proofs.StringLaws.{bound}
 use Rattle.entries.specs.declared.types.ElementSize.{ElementSize}
 use Rattle.entries.specs.declared.types.ElementSize.the-variants.{Bytes, ToZero, Unlawful}
-use Rattle.structure.specs.declared.lookup.Entry.{Entry}
+use Rattle.index.specs.declared.Entry.{Entry}
 use Rattle.entries.specs.Types.{elementSize}
-use Rattle.structure.specs.Lookup.{extentTo}
+use Rattle.index.specs.Lookup.{extentTo}
 use Rattle.structure.specs.Sound.{SoundEntry}
-use Rattle.lookups.specs.declared.lookup.Sought.{Sought}
-use Rattle.lookups.specs.declared.lookup.Sought.the-variants.{Here, Refused}
+use Rattle.lookups.specs.declared.Sought.{Sought}
+use Rattle.lookups.specs.declared.Sought.the-variants.{Here, Refused}
 use Rattle.lookups.specs.Lookup.{sought, stringPart, elementFor, elementOf, elementAs, soughtElement}
 use Rattle.lookups.proofs.SeekLaws.{sought-sound}
 

@@ -10,16 +10,16 @@ use Rattle.format.specs.declared.places.Section.{Section}
 use Rattle.format.specs.declared.verdict.Verdict.{Verdict}
 use Rattle.format.specs.declared.verdict.Verdict.the-variants.{Pass, Fail}
 use Rattle.format.specs.declared.verdict.Answer.the-variants as answer
-use Rattle.structure.specs.declared.lookup.Entry.{Entry}
-use Rattle.structure.specs.declared.lookup.Found.{Found}
-use Rattle.structure.specs.declared.lookup.Found.the-variants.{At, Nothing}
-use Rattle.structure.specs.Lookup.{findIn}
+use Rattle.index.specs.declared.Entry.{Entry}
+use Rattle.index.specs.declared.Found.{Found}
+use Rattle.index.specs.declared.Found.the-variants.{At, Nothing}
+use Rattle.index.specs.Lookup.{findIn}
 use Rattle.structure.specs.Sound.{SoundEntry}
 use Rattle.structure.proofs.SoundLaws.{found-sound, sound-longer}
-use Rattle.package.specs.declared.sound.Searched.{Searched}
-use Rattle.package.specs.declared.sound.Searched.the-variants as searched′
-use Rattle.lookups.specs.declared.lookup.Sought.{Sought}
-use Rattle.lookups.specs.declared.lookup.Sought.the-variants.{Here, Refused}
+use Rattle.package.specs.declared.Searched.{Searched}
+use Rattle.package.specs.declared.Searched.the-variants as searched′
+use Rattle.lookups.specs.declared.Sought.{Sought}
+use Rattle.lookups.specs.declared.Sought.the-variants.{Here, Refused}
 use Rattle.package.specs.Package.{signatureAt, headerAt, structureOf, soundCheck, searched}
 use Rattle.lookups.specs.Lookup.{soughtAs, sought, soughtBytes, soughtAnswer}
 use Rattle.package.proofs.OpenLaws.{within, refused, sound-size, sound-signature, sound-header}

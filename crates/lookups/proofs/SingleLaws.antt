@@ -11,7 +11,7 @@ use Rattle.strings.specs.Strings.{stringsFrom}
 use Rattle.strings.proofs.StringLaws.{bound, positive, tight}
 use Rattle.strings.proofs.RowLaws.{string-at, single-ends, single-text}
 use Rattle.entries.specs.declared.types.ElementSize.the-variants.{ToZero}
-use Rattle.structure.specs.declared.lookup.Entry.{Entry}
+use Rattle.index.specs.declared.Entry.{Entry}
 use Rattle.entries.specs.Types.{elementSize}
 use Rattle.lookups.specs.Lookup.{entryBytes, elementOf}
 use Rattle.lookups.specs.Theorems.{SingleString}

@@ -1,3 +1,2 @@
 pub mod Lookup
-pub mod Version
 pub mod Theorems

@@ -13,13 +13,13 @@ use Rattle.format.specs.declared.verdict.Answer.{Answer}
 use Rattle.format.specs.declared.verdict.Answer.the-variants as answer
 use Rattle.entries.specs.declared.types.ElementSize.{ElementSize}
 use Rattle.entries.specs.declared.types.ElementSize.the-variants.{Bytes, ToZero, Unlawful}
-use Rattle.structure.specs.declared.lookup.Entry.{Entry}
-use Rattle.structure.specs.declared.lookup.Found.{Found}
-use Rattle.structure.specs.declared.lookup.Found.the-variants.{At, Nothing}
+use Rattle.index.specs.declared.Entry.{Entry}
+use Rattle.index.specs.declared.Found.{Found}
+use Rattle.index.specs.declared.Found.the-variants.{At, Nothing}
 use Rattle.entries.specs.Types.{elementSize}
-use Rattle.structure.specs.Lookup.{extentTo, findIn}
-use Rattle.lookups.specs.declared.lookup.Sought.{Sought}
-use Rattle.lookups.specs.declared.lookup.Sought.the-variants.{Here, Refused}
+use Rattle.index.specs.Lookup.{extentTo, findIn}
+use Rattle.lookups.specs.declared.Sought.{Sought}
+use Rattle.lookups.specs.declared.Sought.the-variants.{Here, Refused}
 use Rattle.package.specs.Package.{soundCheck, structureOf}
 
 -- 2 to 13, then 25 | look-up: no record of that tag and type | 0

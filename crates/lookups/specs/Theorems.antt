@@ -15,10 +15,10 @@ use Rattle.format.specs.declared.verdict.Answer.the-variants.{Done, Refused}
 use Rattle.format.specs.Places.{storePlace, sectionEnd}
 use Rattle.format.specs.Verdicts.{numberOf}
 use Rattle.entries.specs.declared.types.ElementSize.the-variants.{Bytes, ToZero}
-use Rattle.structure.specs.declared.lookup.Entry.{Entry}
+use Rattle.index.specs.declared.Entry.{Entry}
 use Rattle.entries.specs.Types.{elementSize}
 use Rattle.entries.specs.Entries.{recordAt}
-use Rattle.lookups.specs.declared.lookup.Sought.the-variants.{Here}
+use Rattle.lookups.specs.declared.Sought.the-variants.{Here}
 use Rattle.package.specs.Package.{soundCheck, structureOf}
 use Rattle.lookups.specs.Lookup.{sought, entryBytes, elementOf, findBytes, findAnswer, findElementBytes}
 use Rattle.lookups.specs.Lookup.{findElementAnswer}

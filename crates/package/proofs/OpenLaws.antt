@@ -16,15 +16,16 @@ use Rattle.format.specs.Places.{sectionEnd}
 use Rattle.format.specs.Lead.{leadOf}
 use Rattle.format.specs.Verdicts.{both}
 use Rattle.format.proofs.VerdictLaws.{inverted, both-inverted, both-pass, both-fail}
-use Rattle.structure.specs.declared.lookup.Found.{Found}
-use Rattle.structure.specs.declared.checks.Checked.{Checked}
-use Rattle.structure.specs.declared.checks.Checked.the-variants as checked
+use Rattle.index.specs.declared.Found.{Found}
+use Rattle.structure.specs.declared.Checked.{Checked}
+use Rattle.structure.specs.declared.Checked.the-variants as checked
 use Rattle.structure.specs.Structure.{structureCheck}
-use Rattle.structure.specs.Lookup.{findIn, structureChecked}
+use Rattle.index.specs.Lookup.{findIn}
+use Rattle.structure.specs.Checked.{structureChecked}
 use Rattle.structure.proofs.PassLaws.{structure-header, checked-sound, checked-unsound}
-use Rattle.package.specs.declared.sound.Opened.the-variants as opened′
-use Rattle.package.specs.declared.sound.Searched.{Searched}
-use Rattle.package.specs.declared.sound.Searched.the-variants.{Within, Refused}
+use Rattle.package.specs.declared.Opened.the-variants as opened′
+use Rattle.package.specs.declared.Searched.{Searched}
+use Rattle.package.specs.declared.Searched.the-variants.{Within, Refused}
 use Rattle.package.specs.Lead.{leadCheck}
 use Rattle.package.specs.Package.{sizeCheck, headerStart, signatureAt, headerAt, structureOf, structuresCheck, packageCheck, soundCheck, openedAs, opened, searchedAs, structuresSearched, searched}
 

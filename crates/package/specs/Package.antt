@@ -11,13 +11,13 @@ use Rattle.format.specs.Sizes.{packageLimit, leadSize}
 use Rattle.format.specs.Places.{sectionEnd}
 use Rattle.format.specs.Lead.{leadOf}
 use Rattle.format.specs.Verdicts.{check, both}
-use Rattle.structure.specs.declared.lookup.Found.{Found}
+use Rattle.index.specs.declared.Found.{Found}
 use Rattle.structure.specs.Structure.{sectionAt, structureCheck}
-use Rattle.structure.specs.Lookup.{findIn}
-use Rattle.package.specs.declared.sound.Opened.{Opened}
-use Rattle.package.specs.declared.sound.Opened.the-variants.{Sound, Unsound}
-use Rattle.package.specs.declared.sound.Searched.{Searched}
-use Rattle.package.specs.declared.sound.Searched.the-variants.{Within, Refused}
+use Rattle.index.specs.Lookup.{findIn}
+use Rattle.package.specs.declared.Opened.{Opened}
+use Rattle.package.specs.declared.Opened.the-variants.{Sound, Unsound}
+use Rattle.package.specs.declared.Searched.{Searched}
+use Rattle.package.specs.declared.Searched.the-variants.{Within, Refused}
 use Rattle.package.specs.Lead.{leadCheck}
 
 -- 2 | package over 65,536 bytes | 0

@@ -10,8 +10,8 @@ use Rattle.format.specs.declared.verdict.Verdict.the-variants.{Pass, Fail}
 use Rattle.format.specs.declared.verdict.Answer.the-variants as answer
 use Rattle.format.specs.Verdicts.{both}
 use Rattle.format.proofs.VerdictLaws.{both-pass, both-fail}
-use Rattle.package.specs.declared.sound.Opened.{Opened}
-use Rattle.package.specs.declared.sound.Opened.the-variants as opened′
+use Rattle.package.specs.declared.Opened.{Opened}
+use Rattle.package.specs.declared.Opened.the-variants as opened′
 use Rattle.package.specs.Package.{signatureAt, headerAt, soundCheck, opened}
 use Rattle.package.proofs.OpenLaws.{opened-sound, opened-unsound, sound-size}
 use Rattle.book.specs.Doses.{doses}

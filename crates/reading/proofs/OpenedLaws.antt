@@ -14,9 +14,9 @@ use Rattle.format.specs.declared.verdict.Verdict.{Verdict}
 use Rattle.format.specs.declared.verdict.Verdict.the-variants.{Pass, Fail}
 use Rattle.format.specs.Verdicts.{check, both}
 use Rattle.format.proofs.VerdictLaws.{both-pass, both-fail}
-use Rattle.structure.specs.declared.lookup.Entry.{Entry}
-use Rattle.structure.specs.declared.lookup.Found.{Found}
-use Rattle.structure.specs.declared.lookup.Found.the-variants.{At, Nothing}
+use Rattle.index.specs.declared.Entry.{Entry}
+use Rattle.index.specs.declared.Found.{Found}
+use Rattle.index.specs.declared.Found.the-variants.{At, Nothing}
 use Rattle.catalogue.specs.declared.Line.{Line}
 use Rattle.catalogue.specs.Catalogue.{inEdition, lineAt}
 use Rattle.tags.specs.Tags.{numberIn}

@@ -12,7 +12,7 @@ use book::Weighed;
 use catalogue::Line;
 use format::Section;
 use format::Verdict;
-use structure::Found;
+use index::Found;
 
 // The dose count of a package that passed its checks, or the first check that failed and its place.
 pub enum Weighing {
@@ -33,7 +33,7 @@ impl Batch {
 pub(crate) fn book_part(pkg: &[u8], header: Section) -> &[u8]
     ensures { λ r. ⌜ now r ≡ bookIn (now (pkg .entry)) header ⌝ }
 {
-    let found = structure::lookup::find_entry(pkg, header, Book::TAG);
+    let found = index::find_entry(pkg, header, Book::TAG);
     match found {
         Found::At(entry) => be::part(pkg, entry.at.0, entry.extent),
         Found::Nothing => &pkg[..0],

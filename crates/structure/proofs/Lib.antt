@@ -1,4 +1,3 @@
-pub mod LookupLaws
 pub mod RecordsLaws
 pub mod PassLaws
 pub mod SoundLaws

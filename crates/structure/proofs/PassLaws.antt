@@ -11,13 +11,14 @@ use Rattle.format.specs.declared.verdict.Verdict.the-variants.{Pass, Fail}
 use Rattle.format.specs.Places.{storePlace}
 use Rattle.format.specs.Records.{headerRecordAt}
 use Rattle.format.proofs.VerdictLaws.{inverted, both-inverted, both-pass, both-fail}
-use Rattle.structure.specs.declared.lookup.Found.{Found}
-use Rattle.structure.specs.declared.checks.Checked.{Checked}
-use Rattle.structure.specs.declared.checks.Checked.the-variants.{Sound, Unsound}
+use Rattle.index.specs.declared.Found.{Found}
+use Rattle.structure.specs.declared.Checked.{Checked}
+use Rattle.structure.specs.declared.Checked.the-variants.{Sound, Unsound}
 use Rattle.entries.specs.Entries.{recordCheck}
 use Rattle.structure.specs.Structure.{sectionOf, sectionAt, headerCheck, recordsFrom, recordsCheck, structureCheck}
 use Rattle.structure.specs.Sound.{SoundHeader}
-use Rattle.structure.specs.Lookup.{findIn, checkedAs, structureChecked}
+use Rattle.index.specs.Lookup.{findIn}
+use Rattle.structure.specs.Checked.{checkedAs, structureChecked}
 
 -- what checks 5 to 8 say of a header record
 pub header-sound : (len start : ℕ) (h : HeaderRecord) → headerCheck len start h ≡ Pass → SoundHeader len start h

@@ -12,12 +12,13 @@ use Rattle.strings.specs.declared.Ending.{Ending}
 use Rattle.format.specs.declared.records.IndexRecord.{IndexRecord}
 use Rattle.format.specs.Places.{recordPlace}
 use Rattle.format.specs.Records.{indexRecordAt}
-use Rattle.structure.specs.declared.lookup.Found.{Found}
-use Rattle.structure.specs.declared.checks.Checked.the-variants.{Sound, Unsound}
+use Rattle.index.specs.declared.Found.{Found}
+use Rattle.structure.specs.declared.Checked.the-variants.{Sound, Unsound}
 use Rattle.entries.specs.Entries.{dataEnd, entryCheck, recordCheck}
 use Rattle.structure.specs.Structure.{recordsFrom}
-use Rattle.structure.specs.Lookup.{findFrom, orElse, noted, checkedAs}
-use Rattle.structure.proofs.LookupLaws.{none as nothing, note-step, or-else-none}
+use Rattle.index.specs.Lookup.{findFrom, orElse, noted}
+use Rattle.structure.specs.Checked.{checkedAs}
+use Rattle.index.proofs.LookupLaws.{none as nothing, note-step, or-else-none}
 
 module _ (s : List ℕ) (section : Section) where
   pub none : (n i : ℕ) → n ≡ 0 → Pass ≡ recordsFrom s section n i

@@ -19,12 +19,12 @@ use Rattle.format.specs.Places.{sectionEnd, inFile}
 use Rattle.format.proofs.VerdictLaws.{inverted}
 use Rattle.entries.specs.declared.types.ElementSize.{ElementSize}
 use Rattle.entries.specs.declared.types.ElementSize.the-variants.{Bytes, ToZero, Unlawful}
-use Rattle.structure.specs.declared.lookup.Entry.{Entry}
-use Rattle.structure.specs.declared.lookup.Found.the-variants.{At}
+use Rattle.index.specs.declared.Entry.{Entry}
+use Rattle.index.specs.declared.Found.the-variants.{At}
 use Rattle.entries.specs.Types.{elementSize}
 use Rattle.entries.specs.Entries.{recordAt, countRight, endFor, dataEnd, entryCheck, recordCheck}
 use Rattle.structure.specs.Structure.{sectionAt, structureCheck}
-use Rattle.structure.specs.Lookup.{entryOf, entryAt, isFor, findFrom, findIn}
+use Rattle.index.specs.Lookup.{entryOf, entryAt, isFor, findFrom, findIn}
 use Rattle.structure.specs.Sound.{SoundEntry}
 use Rattle.entries.proofs.TypeLaws.{bytes-small}
 use Rattle.structure.proofs.PassLaws.{structure-header, structure-record}

@@ -11,7 +11,7 @@ use Rattle.format.specs.declared.records.IndexRecord.{IndexRecord}
 use Rattle.format.specs.declared.verdict.Verdict.the-variants.{Pass}
 use Rattle.format.proofs.VerdictLaws.{inverted}
 use Rattle.entries.specs.Entries.{recordAt, tagBefore, entryCheck, recordCheck}
-use Rattle.structure.specs.Lookup.{isFor}
+use Rattle.index.specs.Lookup.{isFor}
 
 and-true : (a b : Bool) → (a && b) ≡ true → (a ≡ true) × (b ≡ true)
 and-true true b h = (refl, h)

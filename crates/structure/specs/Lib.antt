@@ -1,3 +1,3 @@
 pub mod Structure
-pub mod Lookup
+pub mod Checked
 pub mod Sound

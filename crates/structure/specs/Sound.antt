@@ -9,7 +9,7 @@ use Rattle.format.specs.declared.records.HeaderRecord.{HeaderRecord}
 use Rattle.format.specs.Sizes.{headerRecordSize, nindexLimit}
 use Rattle.format.specs.Places.{sectionEnd}
 use Rattle.entries.specs.declared.types.ElementSize.the-variants.{Bytes, ToZero}
-use Rattle.structure.specs.declared.lookup.Entry.{Entry}
+use Rattle.index.specs.declared.Entry.{Entry}
 use Rattle.entries.specs.Types.{elementSize, isLawful}
 use Rattle.structure.specs.Structure.{sectionOf}
 

@@ -5,9 +5,9 @@ use mathlib.Core.Bool.{Bool, true, false}
 use Rattle.be.specs.Numbers.{be32At}
 use Rattle.format.specs.declared.places.Section.{Section}
 use Rattle.format.specs.Places.{inFile}
-use Rattle.structure.specs.declared.lookup.Tagged.{Tagged}
-use Rattle.structure.specs.declared.lookup.Tagged.the-variants.{Present, Absent}
-use Rattle.structure.specs.Lookup.{taggedIn}
+use Rattle.index.specs.declared.Tagged.{Tagged}
+use Rattle.index.specs.declared.Tagged.the-variants.{Present, Absent}
+use Rattle.index.specs.Lookup.{taggedIn}
 
 abbrev pub isPresent : Tagged → Bool
 isPresent (Present e) = true

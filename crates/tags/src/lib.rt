@@ -2,8 +2,8 @@
 ghost use mathlib.Core.Path.{_≡_};
 ghost use Rattle.tags.specs.Tags.{has, countIn, numberIn};
 use format::Section;
-use structure::Tagged;
-use structure::lookup::find_tag;
+use index::Tagged;
+use index::find_tag;
 
 // Whether a structure has the tag.
 pub fn has(pkg: &[u8], section: Section, tag: u32) -> bool

@@ -19,14 +19,14 @@ use Rattle.format.specs.declared.records.IndexRecord.{IndexRecord}
 use Rattle.format.specs.Places.{inFile, sectionEnd}
 use Rattle.entries.specs.declared.types.ElementSize.{ElementSize}
 use Rattle.entries.specs.declared.types.ElementSize.the-variants.{Bytes, ToZero, Unlawful}
-use Rattle.structure.specs.declared.lookup.Entry.{Entry}
-use Rattle.structure.specs.declared.lookup.Found.{Found}
-use Rattle.structure.specs.declared.lookup.Found.the-variants.{At}
-use Rattle.structure.specs.declared.lookup.Tagged.{Tagged}
-use Rattle.structure.specs.declared.lookup.Tagged.the-variants.{Present, Absent}
+use Rattle.index.specs.declared.Entry.{Entry}
+use Rattle.index.specs.declared.Found.{Found}
+use Rattle.index.specs.declared.Found.the-variants.{At}
+use Rattle.index.specs.declared.Tagged.{Tagged}
+use Rattle.index.specs.declared.Tagged.the-variants.{Present, Absent}
 use Rattle.entries.specs.Types.{elementSize}
 use Rattle.entries.specs.Entries.{endFor, dataEnd}
-use Rattle.structure.specs.Lookup.{extentTo, entryOf, entryFor, taggedIn}
+use Rattle.index.specs.Lookup.{extentTo, entryOf, entryFor, taggedIn}
 use Rattle.tags.specs.Tags.{countIn}
 use Rattle.texts.specs.Texts.{allBelow, indexesBelow, slashesEnd}
 

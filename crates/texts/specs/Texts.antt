@@ -10,9 +10,9 @@ use Rattle.format.specs.declared.places.Section.{Section}
 use Rattle.format.specs.declared.verdict.Verdict.{Verdict}
 use Rattle.format.specs.declared.verdict.Verdict.the-variants.{Pass}
 use Rattle.format.specs.Verdicts.{check}
-use Rattle.structure.specs.declared.lookup.Found.{Found}
-use Rattle.structure.specs.declared.lookup.Found.the-variants.{At, Nothing}
-use Rattle.structure.specs.Lookup.{taggedIn, entryFor}
+use Rattle.index.specs.declared.Found.{Found}
+use Rattle.index.specs.declared.Found.the-variants.{At, Nothing}
+use Rattle.index.specs.Lookup.{taggedIn, entryFor}
 use Rattle.tags.specs.Tags.{countIn}
 
 abbrev pub entryIn : List ℕ → Section → ℕ → Found

@@ -5,10 +5,10 @@ ghost use Rattle.texts.specs.Texts.{textIs, allBelow, indexesBelow, slas
 use tags::count;
 use format::Section;
 use format::Verdict;
-use structure::Found;
-use structure::Tagged;
-use structure::lookup::find_entry;
-use structure::lookup::find_tag;
+use index::Found;
+use index::Tagged;
+use index::find_entry;
+use index::find_tag;
 
 // Whether a tag's data is a text, where the tag is present.
 fn text_is(pkg: &[u8], section: Section, text: &[u8], tag: u32) -> bool

@@ -12,8 +12,8 @@ use Rattle.format.specs.Sizes.{leadSize}
 use Rattle.format.specs.Places.{recordPlace, sectionEnd}
 use Rattle.format.specs.Records.{indexRecordAt}
 use Rattle.structure.proofs.PassLaws.{structure-header}
-use Rattle.package.specs.declared.sound.Opened.{Opened}
-use Rattle.package.specs.declared.sound.Opened.the-variants.{Sound, Unsound}
+use Rattle.package.specs.declared.Opened.{Opened}
+use Rattle.package.specs.declared.Opened.the-variants.{Sound, Unsound}
 use Rattle.walk.specs.declared.Step.{Step}
 use Rattle.package.specs.Package.{headerStart, signatureAt, opened}
 use Rattle.walk.specs.Walk.{refusedStep, stepIn, stepOf}

@@ -1,7 +1,7 @@
 -- By whether the tag is present.
 -- Assumes nothing.
 use borrow.Author.Needs.{needs}
-use Rattle.structure.specs.Lookup.{taggedIn}
+use Rattle.index.specs.Lookup.{taggedIn}
 use Rattle.format.proofs.VerdictLaws.{passed, stopped, answers}
 use Rattle.lines.specs.Lines.{lineCheckAs}
 use Rattle.tags.proofs.TestLaws.{by-case, made}

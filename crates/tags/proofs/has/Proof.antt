@@ -2,7 +2,7 @@
 -- Assumes nothing.
 use mathlib.Core.Path.{refl}
 use borrow.Author.Needs.{needs}
-use Rattle.structure.specs.Lookup.{taggedIn}
+use Rattle.index.specs.Lookup.{taggedIn}
 use Rattle.tags.specs.Tags.{isPresent}
 use Rattle.tags.proofs.TestLaws.{by-case}
 use Rattle.tags.proofs.has.Statement.{statement}

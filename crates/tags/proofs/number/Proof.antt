@@ -3,7 +3,7 @@
 use mathlib.Core.Path.{ap, _∙_, refl}
 use borrow.Author.Needs.{needs}
 use Rattle.be.specs.Numbers.{be32At}
-use Rattle.structure.specs.Lookup.{taggedIn}
+use Rattle.index.specs.Lookup.{taggedIn}
 use Rattle.tags.specs.Tags.{numberAt}
 use Rattle.tags.proofs.TestLaws.{by-case}
 use Rattle.tags.proofs.number.Statement.{statement}

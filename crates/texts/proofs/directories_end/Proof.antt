@@ -3,7 +3,7 @@
 use mathlib.Core.Path.{refl}
 use native.Mathlib.Omega.{arith}
 use borrow.Author.Needs.{needs}
-use Rattle.structure.specs.Lookup.{taggedIn, entryFor}
+use Rattle.index.specs.Lookup.{taggedIn, entryFor}
 use Rattle.texts.specs.Texts.{foundSlashes}
 use Rattle.tags.proofs.TestLaws.{by-case}
 use Rattle.texts.proofs.TextsLaws.{extent-le}

@@ -2,7 +2,7 @@
 -- Assumes nothing.
 use mathlib.Core.Path.{refl}
 use borrow.Author.Needs.{needs}
-use Rattle.structure.specs.Lookup.{taggedIn, entryFor}
+use Rattle.index.specs.Lookup.{taggedIn, entryFor}
 use Rattle.texts.specs.Texts.{foundText}
 use Rattle.tags.proofs.TestLaws.{by-case}
 use Rattle.texts.proofs.text_is.Statement.{statement}

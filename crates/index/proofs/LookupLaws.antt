@@ -1,0 +1,143 @@
+-- Laws of `findFrom`, one for each way through a turn of the search, and of what it notes.
+use Prim.Native.Nat.{ℕ, suc, _+_, _-_, _≤_, _<_}
+use mathlib.Core.Path.{_≡_, refl, sym, ap, _∙_}
+use mathlib.Core.List.{List}
+use mathlib.Core.Bool.{Bool, true, false, cond}
+use lib.Dec.{eqb}
+use native.Mathlib.Omega.{arith}
+use borrow.Author.Tests.{eq-eqb, ne-eqb}
+use Rattle.strings.specs.declared.Ending.{Ending}
+use Rattle.strings.specs.declared.Ending.the-variants.{Ends, Open}
+use Rattle.be.specs.Numbers.{be32At}
+use Rattle.format.specs.declared.places.FileOffset.{FileOffset}
+use Rattle.format.specs.declared.places.Section.{Section}
+use Rattle.format.specs.declared.records.IndexRecord.{IndexRecord}
+use Rattle.format.specs.Places.{recordPlace, inFile}
+use Rattle.format.specs.Records.{indexRecordAt}
+use Rattle.index.specs.declared.Entry.{Entry}
+use Rattle.index.specs.declared.Found.{Found}
+use Rattle.index.specs.declared.Found.the-variants.{At, Nothing}
+use Rattle.index.specs.declared.Tagged.{Tagged}
+use Rattle.index.specs.declared.Tagged.the-variants.{Present, Absent}
+use Rattle.entries.specs.Entries.{recordAt, dataEnd}
+use Rattle.index.specs.Lookup.{extentTo, entryOf, entryAt, isFor, findFrom, orElse, noted, taggedFrom, taggedIn, entryFor}
+
+pub extent-ends : (from : ℕ) {end : Ending} {to : ℕ} → end ≡ Ends to → from ≤ to → to - from ≡ extentTo from end
+extent-ends from h l = rw h
+
+pub extent-none : (from : ℕ) {end : Ending} {to : ℕ} → end ≡ Ends to → to < from → 0 ≡ extentTo from end
+extent-none from {to = to} h l = rw h (omega arith)
+
+pub extent-open : (from : ℕ) {end : Ending} → end ≡ Open → 0 ≡ extentTo from end
+extent-open from h = rw h
+
+pub for-tag : (tag ty : ℕ) (e : IndexRecord) → e .tag ≡ tag → eqb (e .ty) ty ≡ isFor tag ty e
+for-tag tag ty e h = rw (eq-eqb (e .tag) tag h)
+
+pub for-other : (tag ty : ℕ) (e : IndexRecord) → (e .tag ≡ tag → ⊥) → false ≡ isFor tag ty e
+for-other tag ty e h = rw (ne-eqb (e .tag) tag h)
+
+pub entry-made : (section : Section) (e : IndexRecord) (end : Ending) {at : FileOffset} {n : ℕ} → at .0 ≡ inFile section (e .offset)
+    → n ≡ extentTo (at .0) end
+    → _≡_ {A = Entry} (record { ty = e .ty; count = e .count; at = at; extent = n }) (entryOf section e end)
+entry-made section e end p q = rw (q, p)
+
+-- what is noted of one index record
+module _ (tag ty : ℕ) (section : Section) (e : IndexRecord) (end : Ending) {f : Found} where
+  pub noted-kept : {entry : Entry} → f ≡ At entry → At entry ≡ noted f tag ty section e end
+  noted-kept h = rw h
+
+  pub noted-new : {b : Bool} {entry : Entry} → f ≡ Nothing → b ≡ isFor tag ty e → b ≡ true → entry ≡ entryOf section e end
+      → At entry ≡ noted f tag ty section e end
+  noted-new h p q r = rw (h, sym p ∙ q, r)
+
+  pub noted-none : {b : Bool} → f ≡ Nothing → b ≡ isFor tag ty e → b ≡ false → Nothing ≡ noted f tag ty section e end
+  noted-none h p q = rw (h, sym p ∙ q)
+
+pub or-else-none : (f : Found) → orElse f Nothing ≡ f
+or-else-none (At entry) = refl
+or-else-none Nothing = refl
+
+module _ (s : List ℕ) (section : Section) (tag ty : ℕ) where
+  pub none : (n i : ℕ) → n ≡ 0 → Nothing ≡ findFrom s section n i tag ty
+  unfolding findFrom
+  none n i h = rw h
+
+  step : (n i : ℕ) → findFrom s section (suc n) i tag ty
+      ≡ cond (isFor tag ty (recordAt s section i)) (At (entryAt s section i)) (findFrom s section n (i + 1) tag ty)
+  unfolding findFrom
+  step n i = refl
+
+  unrolled : (n i : ℕ) → i < n → findFrom s section (n - i) i tag ty
+      ≡ cond (isFor tag ty (recordAt s section i)) (At (entryAt s section i)) (findFrom s section (n - (i + 1)) (i + 1) tag ty)
+  unrolled n i l =
+      let k : n - i ≡ suc (n - (i + 1)) = omega arith in
+      rw k (step (n - (i + 1)) i)
+
+  choose : (f later : Found) (b : Bool) (entry : Entry)
+      → orElse f (cond b (At entry) later) ≡ orElse (orElse f (cond b (At entry) Nothing)) later
+  choose (At x) later b entry = refl
+  choose Nothing later true entry = refl
+  choose Nothing later false entry = refl
+
+  -- one more record noted
+  pub note-step : (n i : ℕ) (f : Found) → i < n
+      → orElse f (findFrom s section (n - i) i tag ty)
+      ≡ orElse (noted f tag ty section (recordAt s section i) (dataEnd s section (recordAt s section i)))
+      (findFrom s section (n - (i + 1)) (i + 1) tag ty)
+  note-step n i f l = ap (orElse f) (unrolled n i l) ∙ choose f _ (isFor tag ty (recordAt s section i)) _
+
+-- the same, in the shape of what is known in a turn: v is what the search began with, e the record that was read
+module _ (s : List ℕ) (section : Section) (tag ty n i : ℕ) {v : Found} (inv : v ≡ findFrom s section (n - i) i tag ty)
+    {place : ℕ} (p : place ≡ recordPlace section i) {e : IndexRecord} (q : e ≡ indexRecordAt s place) where
+  here : e ≡ recordAt s section i
+  here = q ∙ ap (indexRecordAt s) p
+
+  pub turn : {b : Bool} → b ≡ isFor tag ty e → b ≡ false → i < n → v ≡ findFrom s section (n - (i + 1)) (i + 1) tag ty
+  turn h k l = inv ∙ unrolled s section tag ty n i l ∙ rw (sym (ap (isFor tag ty) here) ∙ sym h ∙ k)
+
+  pub ends : {b : Bool} {end : Ending} {entry : Entry} → b ≡ isFor tag ty e → b ≡ true → i < n → end ≡ dataEnd s section e
+      → entry ≡ entryOf section e end → At entry ≡ v
+  ends h k l g r =
+      ap At (rw (g, here) at r) ∙ sym (inv ∙ unrolled s section tag ty n i l ∙ rw (sym (ap (isFor tag ty) here) ∙ sym h ∙ k))
+
+pub spent : (s : List ℕ) (section : Section) (tag ty n i : ℕ) {v : Found} → v ≡ findFrom s section (n - i) i tag ty → n ≤ i
+    → Nothing ≡ v
+spent s section tag ty n i inv l = none s section tag ty (n - i) i (omega arith) ∙ sym inv
+
+-- the search by tag alone
+module _ (s : List ℕ) (section : Section) (tag : ℕ) where
+  tagged-step : (n i : ℕ) → taggedFrom s section (suc n) i tag
+      ≡ cond (eqb (be32At s (recordPlace section i)) tag) (Present (recordAt s section i)) (taggedFrom s section n (i + 1) tag)
+  unfolding taggedFrom
+  tagged-step n i = refl
+
+  tagged-unrolled : (n i : ℕ) → i < n → taggedFrom s section (n - i) i tag
+      ≡ cond (eqb (be32At s (recordPlace section i)) tag) (Present (recordAt s section i)) (taggedFrom s section (n - (i + 1)) (i + 1) tag)
+  tagged-unrolled n i l =
+      let k : n - i ≡ suc (n - (i + 1)) = omega arith in
+      rw k (tagged-step (n - (i + 1)) i)
+
+  module _ (n i : ℕ) {v : Tagged} (inv : v ≡ taggedFrom s section (n - i) i tag) where
+    pub tagged-turn : {r : ℕ} → r ≡ be32At s (recordPlace section i) → (r ≡ tag → ⊥) → i < n
+        → v ≡ taggedFrom s section (n - (i + 1)) (i + 1) tag
+    tagged-turn q h l = inv ∙ tagged-unrolled n i l ∙ rw (ne-eqb (be32At s (recordPlace section i)) tag (λ e. h (q ∙ e)))
+
+    pub tagged-ends : {place r : ℕ} {e : IndexRecord} → r ≡ be32At s (recordPlace section i) → r ≡ tag → i < n
+        → place ≡ recordPlace section i → e ≡ indexRecordAt s place → Present e ≡ v
+    tagged-ends q h l p g =
+        ap Present (g ∙ ap (indexRecordAt s) p)
+        ∙ sym (inv ∙ tagged-unrolled n i l ∙ rw (eq-eqb (be32At s (recordPlace section i)) tag (sym q ∙ h)))
+
+    pub tagged-spent : n ≤ i → Absent ≡ v
+    unfolding taggedFrom
+    tagged-spent l = let k : n - i ≡ 0 = omega arith in sym (rw k at inv)
+
+-- the entry of the record that was found
+module _ (s : List ℕ) (section : Section) (tag : ℕ) {r : Tagged} (p : r ≡ taggedIn s section tag) where
+  pub entry-present : {e : IndexRecord} {end : Ending} {entry : Entry} → r ≡ Present e → end ≡ dataEnd s section e
+      → entry ≡ entryOf section e end → At entry ≡ entryFor s section (taggedIn s section tag)
+  entry-present h g q = rw (sym p ∙ h) (ap At (rw g at q))
+
+  pub entry-absent : r ≡ Absent → Nothing ≡ entryFor s section (taggedIn s section tag)
+  entry-absent h = rw (sym p ∙ h)

@@ -1,0 +1,134 @@
+// The entry with a tag and a type.
+ghost use mathlib.Core.Path.{_≡_};
+ghost use Rattle.index.specs.Lookup.{extentTo, entryOf, isFor, findIn, noted, taggedIn, entryFor};
+use entries::data_end;
+use entries::tag_at;
+use strings::Ending;
+use format::FileOffset;
+use format::IndexRecord;
+use format::Section;
+
+// An entry: its type and count, where its data starts in the file, and how many bytes it has.
+pub struct Entry {
+    pub ty: u32,
+    pub count: u32,
+    pub at: FileOffset,
+    pub extent: usize,
+}
+
+// What a search finds.
+pub enum Found {
+    At(Entry),
+    Nothing,
+}
+
+// The index record with a tag, where there is one.
+pub enum Tagged {
+    Present(IndexRecord),
+    Absent,
+}
+
+// How many bytes lie between a place and an end.
+pub fn extent_to(from: usize, end: Ending) -> usize
+    ensures { λ r. ⌜ r ≡ extentTo from end ⌝ }
+{
+    match end {
+        Ending::Ends(to) => { if from <= to { to - from } else { 0 } }
+        Ending::Open => 0,
+    }
+}
+
+// The entry of an index record whose data ends at a place.
+pub fn entry_of(section: Section, e: IndexRecord, end: Ending) -> Entry
+    ensures { λ r. ⌜ r ≡ entryOf section e end ⌝ }
+{
+    let at = e.offset.in_file(section);
+    let extent = extent_to(at.0, end);
+    Entry {
+        ty: e.ty,
+        count: e.count,
+        at: at,
+        extent: extent,
+    }
+}
+
+// Whether an index record has the tag and the type.
+pub fn is_for(tag: u32, ty: u32, e: IndexRecord) -> bool
+    ensures { λ r. ⌜ r ≡ isFor tag ty e ⌝ }
+{
+    if e.tag != tag {
+        return false;
+    }
+    e.ty == ty
+}
+
+// What is found once an index record has been seen: the first with the tag and the type stays.
+pub fn note(
+    found: Found,
+    tag: u32,
+    ty: u32,
+    section: Section,
+    e: IndexRecord,
+    end: Ending,
+) -> Found
+    ensures { λ r. ⌜ r ≡ noted found tag ty section e end ⌝ }
+{
+    match found {
+        Found::At(entry) => Found::At(entry),
+        Found::Nothing => {
+            if is_for(tag, ty, e) {
+                Found::At(entry_of(section, e, end))
+            } else {
+                Found::Nothing
+            }
+        }
+    }
+}
+
+// The first entry of a structure that has the tag and the type.
+pub fn find(s: &[u8], section: Section, tag: u32, ty: u32) -> Found
+    ensures { λ r. ⌜ r ≡ findIn (now (s .entry)) section tag ty ⌝ }
+{
+    let n = section.nindex;
+    let mut i = 0;
+    while i < n {
+        let place = section.index_record(i);
+        let e = IndexRecord::at(s, place);
+        if is_for(tag, ty, e) {
+            let end = data_end(s, section, e);
+            return Found::At(entry_of(section, e, end));
+        }
+        i += 1;
+    }
+    Found::Nothing
+}
+
+// The first index record of a structure that has the tag.
+pub fn find_tag(s: &[u8], section: Section, tag: u32) -> Tagged
+    ensures { λ r. ⌜ r ≡ taggedIn (now (s .entry)) section tag ⌝ }
+{
+    let n = section.nindex;
+    let mut i = 0;
+    while i < n {
+        if tag_at(s, section, n, i) == tag {
+            let place = section.index_record(i);
+            return Tagged::Present(IndexRecord::at(s, place));
+        }
+        i += 1;
+    }
+    Tagged::Absent
+}
+
+// The entry of a structure that has the tag.
+pub fn find_entry(s: &[u8], section: Section, tag: u32) -> Found
+    ensures { λ r. ⌜ r ≡ entryFor (now (s .entry)) section (taggedIn (now (s .entry)) section tag) ⌝ }
+{
+    let found = find_tag(s, section, tag);
+    match found {
+        Tagged::Present(e) => {
+            let end = data_end(s, section, e);
+            Found::At(entry_of(section, e, end))
+        }
+        Tagged::Absent => Found::Nothing,
+    }
+}

@@ -1,0 +1,89 @@
+// The version required for a package name.
+ghost use mathlib.Core.Path.{_≡_};
+ghost use Prim.Native.Nat.{ℕ, _+_, _-_, _≤_, _<_};
+ghost use lib.ListN.{length};
+ghost use Rattle.format.specs.declared.verdict.Verdict.the-variants.{Pass};
+ghost use Rattle.structure.specs.Sound.{SoundEntry};
+ghost use Rattle.entries.specs.declared.types.ElementSize.the-variants.{ToZero};
+ghost use Rattle.entries.specs.Types.{elementSize};
+ghost use Rattle.package.specs.Package.{soundCheck, headerAt};
+ghost use Rattle.required.specs.Version.{versionFrom, versionIn, soughtVersion, requiredVersion};
+use lookups::Sought;
+use lookups::element;
+use lookups::shown;
+use package::Opened;
+use package::open;
+use format::Section;
+use index::Entry;
+use index::Found;
+
+// The tags of required names and versions, and the type of a string array.
+pub struct Require {}
+
+impl Require {
+    pub const NAME: u32 = 1049;
+
+    pub const VERSION: u32 = 1050;
+
+    pub const STRING_ARRAY: u32 = 8;
+}
+
+// The version beside the first of the names that is the lent one.
+fn beside(pkg: &[u8], name: &[u8], names: Entry, versions: Entry) -> Sought
+    requires { ⌜ (SoundEntry (now pkg) 65536 names) × (SoundEntry (now pkg) 65536 versions) × (elementSize (names .ty) ≡ ToZero) ⌝ }
+    ensures { λ r. ⌜ r ≡ versionFrom (now (pkg .entry)) (now (name .entry)) names versions (names .count) 0 ⌝ }
+{
+    let mut at = names.at.0;
+    let mut k = 0;
+    while k < names.count {
+        let end = names.at.0 + names.extent;
+        let run = strings::strings_end(pkg, at, end, 1);
+        let extent = index::extent_to(at, run);
+        let text = be::part(pkg, at, extent - 1);
+        if be::same(text, name) {
+            return Sought::Here(element(pkg, versions, k));
+        }
+        at += extent;
+        k += 1;
+    }
+    Sought::Refused(25, 0)
+}
+
+// The version among a header's entries, where names and versions are string arrays of one count.
+fn among(pkg: &[u8], name: &[u8], header: Section) -> Sought
+    requires { ⌜ (soundCheck (now pkg) ≡ Pass) × (header ≡ headerAt (now pkg)) ⌝ }
+    ensures { λ r. ⌜ r ≡ versionIn (now (pkg .entry)) (now (name .entry)) header ⌝ }
+{
+    let first = index::find(pkg, header, Require::NAME, Require::STRING_ARRAY);
+    let Found::At(names) = first else {
+        return Sought::Refused(25, 0);
+    };
+    let second = index::find(pkg, header, Require::VERSION, Require::STRING_ARRAY);
+    let Found::At(versions) = second else {
+        return Sought::Refused(25, 0);
+    };
+    if names.count != versions.count {
+        return Sought::Refused(25, 0);
+    }
+    beside(pkg, name, names, versions)
+}
+
+// Where the version required for a name stands: the string of tag 1050 beside the first string of tag 1049 that is the name.
+fn seek_version(pkg: &[u8], name: &[u8]) -> Sought
+    ensures { λ r. ⌜ r ≡ soughtVersion (now (pkg .entry)) (now (name .entry)) ⌝ }
+{
+    let found = open(pkg);
+    match found {
+        Opened::Unsound(number, place) => Sought::Refused(number, place),
+        Opened::Sound(_, header) => among(pkg, name, header),
+    }
+}
+
+// The version required for a name, with its zero byte; an empty part where a check of 2 to 13 fails, nothing matches, or
+// names and versions are not string arrays of one count.
+pub fn required_version<'p, 'n>(pkg: &'p [u8], name: &'n [u8]) -> &'p [u8]
+    ensures { λ r. ⌜ now r ≡ requiredVersion (now (pkg .entry)) (now (name .entry)) ⌝ }
+{
+    let found = seek_version(pkg, name);
+    shown(pkg, found)
+}

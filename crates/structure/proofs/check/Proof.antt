@@ -1,0 +1,38 @@
+-- Checks 5 to 8 on the header record, then 9 to 13 on the records. Assumes nothing.
+use Rattle.structure.proofs.PassLaws as laws
+use borrow.Author.Needs.{needs}
+use Rattle.structure.proofs.check.Statement.{statement}
+use Rattle.structure.proofs.check.Tie as tie
+
+at-requires : tie.Need-at-requires
+at-requires c κs = search needs
+
+header-check-requires : tie.Need-header-check-requires
+header-check-requires c κs = search needs
+
+enum-known-v : tie.Need-enum-known-v
+enum-known-v c = search needs
+
+returns : tie.Need-returns
+returns c = search laws.refused
+
+enum-told : tie.Need-enum-told
+enum-told c = search needs
+
+records-check-requires : tie.Need-records-check-requires
+records-check-requires c κs = search laws.store-small
+
+returns-2 : tie.Need-returns-2
+returns-2 c = search laws.sound
+
+pub check-spec : {M : Type 1} → statement M
+check-spec =
+    tie.close
+    (tie.spec
+    at-requires
+    header-check-requires
+    enum-known-v
+    returns
+    enum-told
+    records-check-requires
+    returns-2)
