@@ -1,4 +1,4 @@
--- What the rules ask of a tag: whether a structure has it, its count, its number.
+-- What the rules ask of a tag, over what a structure shows for each tag: the index record that has it, where there is one.
 use Prim.Native.Nat.{ℕ}
 use mathlib.Core.List.{List}
 use mathlib.Core.Bool.{Bool, true, false}
@@ -7,7 +7,10 @@ use Rattle.format.specs.declared.places.Section.{Section}
 use Rattle.format.specs.Places.{inFile}
 use Rattle.index.specs.declared.Tagged.{Tagged}
 use Rattle.index.specs.declared.Tagged.the-variants.{Present, Absent}
-use Rattle.index.specs.Lookup.{taggedIn}
+
+-- a look-up by tag
+abbrev pub Look : Type 0
+Look = ℕ → Tagged
 
 abbrev pub isPresent : Tagged → Bool
 isPresent (Present e) = true
@@ -18,16 +21,16 @@ abbrev pub countOf : Tagged → ℕ
 countOf (Present e) = e .count
 countOf Absent = 0
 
-abbrev pub has : List ℕ → Section → ℕ → Bool
-has s section tag = isPresent (taggedIn s section tag)
+abbrev pub has : Look → ℕ → Bool
+has look tag = isPresent (look tag)
 
-abbrev pub countIn : List ℕ → Section → ℕ → ℕ
-countIn s section tag = countOf (taggedIn s section tag)
+abbrev pub countIn : Look → ℕ → ℕ
+countIn look tag = countOf (look tag)
 
 -- the 32-bit number that a tag's data begins with; 0 where the tag is absent
 abbrev pub numberAt : List ℕ → Section → Tagged → ℕ
 numberAt s section (Present e) = be32At s (inFile section (e .offset))
 numberAt s section Absent = 0
 
-abbrev pub numberIn : List ℕ → Section → ℕ → ℕ
-numberIn s section tag = numberAt s section (taggedIn s section tag)
+abbrev pub numberIn : List ℕ → Section → Look → ℕ → ℕ
+numberIn s section look tag = numberAt s section (look tag)

@@ -1,37 +1,144 @@
-// What the rules ask of a tag.
+// What the rules ask of a tag: the records of the catalogue's tags, gathered from an index in one pass.
 ghost use mathlib.Core.Path.{_≡_};
 ghost use Rattle.tags.specs.Tags.{has, countIn, numberIn};
+ghost use Rattle.tags.specs.Tables.{slotOf, shownBy, noted, gathered};
+use format::IndexRecord;
 use format::Section;
+use format::StoreOffset;
 use index::Tagged;
-use index::find_tag;
 
-// Whether a structure has the tag.
-pub fn has(pkg: &[u8], section: Section, tag: u32) -> bool
-    ensures { λ r. ⌜ r ≡ has (now (pkg .entry)) section tag ⌝ }
+// A table of records: a slot for each tag of the catalogue.
+pub struct Table {}
+
+impl Table {
+    // How many tags have a slot.
+    pub const SLOTS: usize = 138;
+    // How many numbers it holds: tag, type, offset and count for each slot.
+    pub const NUMBERS: usize = 552;
+}
+
+// The slot of a tag; `Table::SLOTS` for a tag that has none.
+fn slot(tag: u32) -> usize
+    ensures { λ r. ⌜ r ≡ slotOf tag ⌝ }
 {
-    let found = find_tag(pkg, section, tag);
-    match found {
-        Tagged::Present(_) => true,
-        Tagged::Absent => false,
+    if 1000 <= tag {
+        if tag <= 1132 {
+            return (tag - 1000) as usize;
+        }
+        if tag == 20001 {
+            return 133;
+        }
+        if tag == 20002 {
+            return 134;
+        }
+        return Table::SLOTS;
     }
+    if tag == 62 {
+        return 135;
+    }
+    if tag == 63 {
+        return 136;
+    }
+    if tag == 100 {
+        return 137;
+    }
+    Table::SLOTS
+}
+
+// Puts a record in its tag's slot, where it has one.
+fn note(table: &mut [u32; Table::NUMBERS], e: IndexRecord)
+    ensures { λ r. ⌜ now (table .exit) ≡ noted e (now (table .entry)) ⌝ }
+{
+    let k = slot(e.tag);
+    if Table::SLOTS <= k {
+        return;
+    }
+    let at = 4 * k;
+    table[at] = e.tag;
+    table[at + 1] = e.ty;
+    table[at + 2] = e.offset.0;
+    table[at + 3] = e.count;
+}
+
+// The records of the catalogue's tags in an index: from its last record to its first, so that the first of a tag stays.
+pub fn gather(s: &[u8], section: Section) -> [u32; Table::NUMBERS]
+    ensures { λ r. ⌜ r ≡ gathered (now (s .entry)) section ⌝ }
+{
+    let mut table = [0u32; Table::NUMBERS];
+    let mut i = section.nindex;
+    while 0 < i {
+        i -= 1;
+        let place = section.index_record(i);
+        note(&mut table, IndexRecord::at(s, place));
+    }
+    table
+}
+
+// What a table shows for a tag.
+pub fn look(table: &[u32; Table::NUMBERS], tag: u32) -> Tagged
+    ensures { λ r. ⌜ r ≡ shownBy (now (table .entry)) tag ⌝ }
+{
+    let k = slot(tag);
+    if Table::SLOTS <= k {
+        return Tagged::Absent;
+    }
+    let at = 4 * k;
+    if table[at] != tag {
+        return Tagged::Absent;
+    }
+    let ty = table[at + 1];
+    let offset = table[at + 2];
+    let count = table[at + 3];
+    Tagged::Present(
+        IndexRecord {
+            tag: tag,
+            ty: ty,
+            offset: StoreOffset(offset),
+            count: count,
+        },
+    )
+}
+
+// Whether a table has the tag.
+pub fn has(table: &[u32; Table::NUMBERS], tag: u32) -> bool
+    ensures { λ r. ⌜ r ≡ has (shownBy (now (table .entry))) tag ⌝ }
+{
+    let k = slot(tag);
+    if Table::SLOTS <= k {
+        return false;
+    }
+    let at = 4 * k;
+    if table[at] != tag {
+        return false;
+    }
+    true
 }
 
 // The count of a tag; 0 where it is absent.
-pub fn count(pkg: &[u8], section: Section, tag: u32) -> u32
-    ensures { λ r. ⌜ r ≡ countIn (now (pkg .entry)) section tag ⌝ }
+pub fn count(table: &[u32; Table::NUMBERS], tag: u32) -> u32
+    ensures { λ r. ⌜ r ≡ countIn (shownBy (now (table .entry))) tag ⌝ }
 {
-    let found = find_tag(pkg, section, tag);
-    match found {
-        Tagged::Present(e) => e.count,
-        Tagged::Absent => 0,
+    let k = slot(tag);
+    if Table::SLOTS <= k {
+        return 0;
     }
+    let at = 4 * k;
+    if table[at] != tag {
+        return 0;
+    }
+    table[at + 3]
 }
 
 // The 32-bit number that a tag's data begins with; 0 where the tag is absent.
-pub fn number(pkg: &[u8], section: Section, tag: u32) -> u32
-    ensures { λ r. ⌜ r ≡ numberIn (now (pkg .entry)) section tag ⌝ }
+pub fn number(
+    pkg: &[u8],
+    section: Section,
+    table: &[u32; Table::NUMBERS],
+    tag: u32,
+) -> u32
+    ensures { λ r. ⌜ r ≡ numberIn (now (pkg .entry)) section (shownBy (now (table .entry))) tag ⌝ }
 {
-    let found = find_tag(pkg, section, tag);
+    let found = look(table, tag);
     match found {
         Tagged::Present(e) => {
             let at = e.offset.in_file(section);

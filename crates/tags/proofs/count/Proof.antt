@@ -1,27 +1,53 @@
--- By whether a record has the tag.
--- Assumes nothing.
-use mathlib.Core.Path.{refl}
+-- By the record in the tag's slot. Assumes nothing.
+use Rattle.tags.proofs.TableLaws as laws
 use borrow.Author.Needs.{needs}
-use Rattle.index.specs.Lookup.{taggedIn}
-use Rattle.tags.specs.Tags.{countOf}
-use Rattle.tags.proofs.TestLaws.{by-case}
 use Rattle.tags.proofs.count.Statement.{statement}
 use Rattle.tags.proofs.count.Tie as tie
+use Rattle.tags.proofs.count.Reads as reads
+use Rattle.tags.proofs.count.Lts as lts
+use Rattle.tags.proofs.slot.Reads as slot-reads
 
-find-tag-requires : tie.Need-find-tag-requires
-find-tag-requires c κs = search needs
-
-enum-known-found : tie.Need-enum-known-found
-enum-known-found c = search needs
-
-enum-told : tie.Need-enum-told
-enum-told c = search needs
+slot-requires : tie.Need-slot-requires
+slot-requires c κs = search needs
 
 returns : tie.Need-returns
-returns c = by-case countOf (taggedIn _ _ _) (search) (c .before .found .given .1) refl
+returns c = search laws.count-no-slot
+
+mul-at : tie.Need-mul-at
+mul-at c = search needs
+
+mul-if2 : tie.Need-mul-if2
+mul-if2 c = search needs
+
+element-copy-out-if2 : tie.Need-element-copy-out-if2
+element-copy-out-if2 c = search needs
 
 returns-2 : tie.Need-returns-2
-returns-2 c = by-case countOf (taggedIn _ _ _) (search) (c .enum-told .given .1) refl
+returns-2 c = search laws.count-other
+
+add-result : tie.Need-add-result
+add-result c = search needs
+
+mul-result : tie.Need-mul-result
+mul-result c = search needs
+
+element-copy-out-result : tie.Need-element-copy-out-result
+element-copy-out-result c = search needs
+
+returns-3 : tie.Need-returns-3
+returns-3 c = search laws.count-there
 
 pub count-spec : {M : Type 1} → statement M
-count-spec = tie.close (tie.spec find-tag-requires enum-known-found enum-told returns returns-2)
+count-spec =
+    tie.close
+    (tie.spec
+    slot-requires
+    returns
+    mul-at
+    mul-if2
+    element-copy-out-if2
+    returns-2
+    add-result
+    mul-result
+    element-copy-out-result
+    returns-3)

@@ -1,27 +1,34 @@
--- By whether a record has the tag.
--- Assumes nothing.
-use mathlib.Core.Path.{refl}
+-- By the record in the tag's slot. Assumes nothing.
+use Rattle.tags.proofs.TableLaws as laws
 use borrow.Author.Needs.{needs}
-use Rattle.index.specs.Lookup.{taggedIn}
-use Rattle.tags.specs.Tags.{isPresent}
-use Rattle.tags.proofs.TestLaws.{by-case}
 use Rattle.tags.proofs.has.Statement.{statement}
 use Rattle.tags.proofs.has.Tie as tie
+use Rattle.tags.proofs.has.Reads as reads
+use Rattle.tags.proofs.has.Lts as lts
+use Rattle.tags.proofs.slot.Reads as slot-reads
 
-find-tag-requires : tie.Need-find-tag-requires
-find-tag-requires c κs = search needs
-
-enum-told : tie.Need-enum-told
-enum-told c = search needs
-
-enum-told-2 : tie.Need-enum-told-2
-enum-told-2 c = search needs
+slot-requires : tie.Need-slot-requires
+slot-requires c κs = search needs
 
 returns : tie.Need-returns
-returns c = by-case isPresent (taggedIn _ _ _) (search) (c .enum-told .given .1) refl
+returns c = search laws.has-no-slot
+
+mul-at : tie.Need-mul-at
+mul-at c = search needs
+
+mul-if2 : tie.Need-mul-if2
+mul-if2 c = search needs
+
+element-copy-out-if2 : tie.Need-element-copy-out-if2
+element-copy-out-if2 c = search needs
 
 returns-2 : tie.Need-returns-2
-returns-2 c = by-case isPresent (taggedIn _ _ _) (search) (c .enum-told2 .given .1) refl
+returns-2 c = search laws.has-other
+
+returns-3 : tie.Need-returns-3
+returns-3 c = search laws.has-there
 
 pub has-spec : {M : Type 1} → statement M
-has-spec = tie.close (tie.spec find-tag-requires enum-told enum-told-2 returns returns-2)
+has-spec =
+    tie.close
+    (tie.spec slot-requires returns mul-at mul-if2 element-copy-out-if2 returns-2 returns-3)

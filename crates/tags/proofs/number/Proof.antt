@@ -1,16 +1,20 @@
--- By whether a record has the tag.
--- Assumes nothing.
+-- By whether the tag is present. Assumes nothing.
 use mathlib.Core.Path.{ap, _∙_, refl}
-use borrow.Author.Needs.{needs}
 use Rattle.be.specs.Numbers.{be32At}
-use Rattle.index.specs.Lookup.{taggedIn}
 use Rattle.tags.specs.Tags.{numberAt}
+use Rattle.tags.specs.Tables.{shownBy}
 use Rattle.tags.proofs.TestLaws.{by-case}
+use borrow.Author.Needs.{needs}
 use Rattle.tags.proofs.number.Statement.{statement}
 use Rattle.tags.proofs.number.Tie as tie
+use Rattle.tags.proofs.number.Reads as reads
+use Rattle.tags.proofs.number.Lts as lts
+use Rattle.be.proofs.be32.Reads as be32-reads
+use Rattle.format.proofs.places.StoreOffset.in_file.Reads as in-file-reads
+use Rattle.tags.proofs.look.Reads as look-reads
 
-find-tag-requires : tie.Need-find-tag-requires
-find-tag-requires c κs = search needs
+look-requires : tie.Need-look-requires
+look-requires c κs = search needs
 
 enum-known-found : tie.Need-enum-known-found
 enum-known-found c = search needs
@@ -25,18 +29,18 @@ enum-told : tie.Need-enum-told
 enum-told c = search needs
 
 returns : tie.Need-returns
-returns c =
-    by-case (numberAt _ _) (taggedIn _ _ _) (search) (c .before .before .before .found .given .1)
+returns c = 
+    by-case (numberAt _ _) (shownBy _ _) (search) (c .before .before .before .found .given .1)
     (c .be32 .ensures ∙ ap (be32At _) (c .before .in-file .ensures))
 
 returns-2 : tie.Need-returns-2
-returns-2 c = by-case (numberAt _ _) (taggedIn _ _ _) (search) (c .enum-told .given .1) refl
+returns-2 c = by-case (numberAt _ _) (shownBy _ _) (search) (c .enum-told .given .1) refl
 
 pub number-spec : {M : Type 1} → statement M
 number-spec =
     tie.close
     (tie.spec
-    find-tag-requires
+    look-requires
     enum-known-found
     in-file-requires
     be32-requires

@@ -1,0 +1,69 @@
+-- What a table shows for a tag, from what was read of it (no-slot, other, there), and what the rules ask of it then
+-- (has-no-slot .. count-there). What a note leaves (left-out, put).
+use Prim.Native.Nat.{ℕ, suc, _+_, _*_, _≤_, _<_}
+use mathlib.Core.Path.{_≡_, refl, sym, ap, _∙_}
+use mathlib.Core.List.{List, [], _∷_}
+use mathlib.Core.Bool.{Bool, true, false}
+use lib.ListN.{getD, set}
+use lib.Seq.{sets}
+use native.Mathlib.Omega.{arith}
+use borrow.Author.Tests.{eq-eqb, ne-eqb, lt-ltb, le-ltb}
+use Rattle.format.specs.declared.records.IndexRecord.{IndexRecord}
+use Rattle.index.specs.declared.Tagged.{Tagged}
+use Rattle.index.specs.declared.Tagged.the-variants.{Present, Absent}
+use Rattle.tags.specs.Tags.{isPresent, countOf}
+use Rattle.tags.specs.Tables.{slots, slotOf, recordIn, shownBy, noted}
+
+module _ (t : List ℕ) (tag : ℕ) {k : ℕ} (e : k ≡ slotOf tag) where
+  pub no-slot : slots ≤ k → Absent ≡ shownBy t tag
+  unfolding shownBy
+  no-slot h = rw (le-ltb (slotOf tag) slots (rw e at h))
+
+  module _ (l : k < slots) where
+    pub other : (getD t (4 * k) 0 ≡ tag → ⊥) → Absent ≡ shownBy t tag
+    unfolding shownBy
+    other h = rw (← e, lt-ltb k slots l, ne-eqb (getD t (4 * k) 0) tag h)
+
+    pub there : getD t (4 * k) 0 ≡ tag → Present (recordIn t k) ≡ shownBy t tag
+    unfolding shownBy
+    there h = rw (← e, lt-ltb k slots l, eq-eqb (getD t (4 * k) 0) tag h)
+
+    pub made : {ty offset count : ℕ} → ty ≡ getD t (4 * k + 1) 0 → offset ≡ getD t (4 * k + 2) 0
+        → count ≡ getD t (4 * k + 3) 0 → getD t (4 * k) 0 ≡ tag
+        → Present (record { tag = tag; ty = ty; offset = record { 0 = offset }; count = count }) ≡ shownBy t tag
+    made p q r h = ap Present (rw (p, q, r, ← h)) ∙ there h
+
+    pub has-other : (getD t (4 * k) 0 ≡ tag → ⊥) → false ≡ isPresent (shownBy t tag)
+    has-other h = ap isPresent (other h)
+
+    pub has-there : getD t (4 * k) 0 ≡ tag → true ≡ isPresent (shownBy t tag)
+    has-there h = ap isPresent (there h)
+
+    pub count-other : (getD t (4 * k) 0 ≡ tag → ⊥) → 0 ≡ countOf (shownBy t tag)
+    count-other h = ap countOf (other h)
+
+    pub count-there : getD t (4 * k) 0 ≡ tag → getD t (4 * k + 3) 0 ≡ countOf (shownBy t tag)
+    count-there h = ap countOf (there h)
+
+  pub has-no-slot : slots ≤ k → false ≡ isPresent (shownBy t tag)
+  has-no-slot h = ap isPresent (no-slot h)
+
+  pub count-no-slot : slots ≤ k → 0 ≡ countOf (shownBy t tag)
+  count-no-slot h = ap countOf (no-slot h)
+
+four : (t : List ℕ) (i a b c d : ℕ) → set (set (set (set t i a) (i + 1) b) (i + 2) c) (i + 3) d ≡ sets t i (a ∷ b ∷ c ∷ d ∷ [])
+four t i a b c d =
+    let p : i + 1 ≡ suc i = omega arith in
+    let q : i + 2 ≡ suc (suc i) = omega arith in
+    let r : i + 3 ≡ suc (suc (suc i)) = omega arith in
+    rw (p, q, r)
+
+module _ (t : List ℕ) (r : IndexRecord) {k : ℕ} (e : k ≡ slotOf (r .tag)) where
+  pub left-out : slots ≤ k → t ≡ noted r t
+  unfolding noted
+  left-out h = rw (le-ltb (slotOf (r .tag)) slots (rw e at h))
+
+  pub put : k < slots → set (set (set (set t (4 * k) (r .tag)) (4 * k + 1) (r .ty)) (4 * k + 2) (r .offset .0)) (4 * k + 3) (r .count)
+      ≡ noted r t
+  unfolding noted
+  put l = rw (← e, lt-ltb k slots l) (four t (4 * k) (r .tag) (r .ty) (r .offset .0) (r .count))

@@ -1,0 +1,73 @@
+-- By whether the tag has a slot. Assumes nothing.
+use Rattle.tags.proofs.TableLaws as laws
+use borrow.Author.Needs.{needs}
+use Rattle.tags.proofs.note.Statement.{statement}
+use Rattle.tags.proofs.note.Tie as tie
+use Rattle.tags.proofs.note.Reads as reads
+use Rattle.tags.proofs.note.Lts as lts
+use Rattle.tags.proofs.slot.Reads as slot-reads
+
+slot-requires : tie.Need-slot-requires
+slot-requires c κs = search needs
+
+returns : tie.Need-returns
+returns c = search laws.left-out
+
+mul-at : tie.Need-mul-at
+mul-at c = search needs
+
+mul-table : tie.Need-mul-table
+mul-table c = search needs
+
+element-write-table : tie.Need-element-write-table
+element-write-table c = search needs
+
+add-table : tie.Need-add-table
+add-table c = search needs
+
+mul-table-2 : tie.Need-mul-table-2
+mul-table-2 c = search needs
+
+element-write-table-2 : tie.Need-element-write-table-2
+element-write-table-2 c = search needs
+
+add-table-2 : tie.Need-add-table-2
+add-table-2 c = search needs
+
+mul-table-3 : tie.Need-mul-table-3
+mul-table-3 c = search needs
+
+element-write-table-3 : tie.Need-element-write-table-3
+element-write-table-3 c = search needs
+
+add-table-3 : tie.Need-add-table-3
+add-table-3 c = search needs
+
+mul-table-4 : tie.Need-mul-table-4
+mul-table-4 c = search needs
+
+element-write-table-4 : tie.Need-element-write-table-4
+element-write-table-4 c = search needs
+
+returns-2 : tie.Need-returns-2
+returns-2 c = search laws.put
+
+pub note-spec : {M : Type 1} → statement M
+note-spec =
+    tie.close
+    (tie.spec
+    slot-requires
+    returns
+    mul-at
+    mul-table
+    element-write-table
+    add-table
+    mul-table-2
+    element-write-table-2
+    add-table-2
+    mul-table-3
+    element-write-table-3
+    add-table-3
+    mul-table-4
+    element-write-table-4
+    returns-2)

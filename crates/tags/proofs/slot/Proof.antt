@@ -1,0 +1,56 @@
+-- By the tests, in order. Assumes nothing.
+use borrow.Author.Tests.{eq-eqb, ne-eqb, le-leb, lt-leb}
+use Rattle.tags.specs.Tables.{slotOf}
+use Rattle.tags.proofs.TestLaws.{first-of, second-of}
+use borrow.Author.Needs.{needs}
+use Rattle.tags.proofs.slot.Statement.{statement}
+use Rattle.tags.proofs.slot.Tie as tie
+
+cast-result : tie.Need-cast-result
+cast-result c = search needs
+
+returns : tie.Need-returns
+unfolding slotOf
+returns c = search (first-of, second-of, eq-eqb, ne-eqb, le-leb, lt-leb) depth 14
+
+returns-2 : tie.Need-returns-2
+unfolding slotOf
+returns-2 c = search (first-of, second-of, eq-eqb, ne-eqb, le-leb, lt-leb) depth 14
+
+returns-3 : tie.Need-returns-3
+unfolding slotOf
+returns-3 c = search (first-of, second-of, eq-eqb, ne-eqb, le-leb, lt-leb) depth 14
+
+returns-4 : tie.Need-returns-4
+unfolding slotOf
+returns-4 c = search (first-of, second-of, eq-eqb, ne-eqb, le-leb, lt-leb) depth 14
+
+returns-5 : tie.Need-returns-5
+unfolding slotOf
+returns-5 c = search (first-of, second-of, eq-eqb, ne-eqb, le-leb, lt-leb) depth 14
+
+returns-6 : tie.Need-returns-6
+unfolding slotOf
+returns-6 c = search (first-of, second-of, eq-eqb, ne-eqb, le-leb, lt-leb) depth 14
+
+returns-7 : tie.Need-returns-7
+unfolding slotOf
+returns-7 c = search (first-of, second-of, eq-eqb, ne-eqb, le-leb, lt-leb) depth 14
+
+returns-8 : tie.Need-returns-8
+unfolding slotOf
+returns-8 c = search (first-of, second-of, eq-eqb, ne-eqb, le-leb, lt-leb) depth 14
+
+pub slot-spec : {M : Type 1} → statement M
+slot-spec =
+    tie.close
+    (tie.spec
+    cast-result
+    returns
+    returns-2
+    returns-3
+    returns-4
+    returns-5
+    returns-6
+    returns-7
+    returns-8)
