@@ -1,5 +1,5 @@
 -- Document 01, "Numbers the station shows": checks run top to bottom; the first failing gives number and place.
-use Prim.Native.Nat.{ℕ, _+_, _*_}
+use Prim.Native.Nat.{ℕ, zero, suc, _+_, _*_}
 use mathlib.Core.Bool.{Bool, true, false}
 use Rattle.format.specs.declared.verdict.Verdict.{Verdict}
 use Rattle.format.specs.declared.verdict.Verdict.the-variants.{Pass, Fail}
@@ -15,6 +15,11 @@ check false number place rest = Fail number place
 unfoldable pub both : Verdict → Verdict → Verdict
 both Pass rest = rest
 both (Fail number place) rest = Fail number place
+
+-- n checks from number i on, in order
+unfoldable pub runFrom : (ℕ → Verdict) → ℕ → ℕ → Verdict
+runFrom checkAt zero i = Pass
+runFrom checkAt (suc n) i = both (checkAt i) (runFrom checkAt n (i + 1))
 
 -- the paper's number and place of an answer: success is 0
 abbrev pub numberOf : Answer → ℕ

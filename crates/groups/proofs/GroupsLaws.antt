@@ -1,36 +1,52 @@
--- Laws of `countsCheck` over the tags from number i on, one for each way through a turn: turn, ends, spent.
-use Prim.Native.Nat.{ℕ, suc, _+_, _≤_, _<_}
-use mathlib.Core.Path.{_≡_, refl, sym, _∙_}
-use mathlib.Core.List.{List, _∷_}
-use lib.ListN.{length, getD, drop, drop-of-length-le}
-use lib.Seq.{drop-cons}
-use native.Mathlib.Numerals.{add-one}
-use Rattle.format.specs.declared.places.Section.{Section}
+-- The pairs and the led groups as runs of checks (signature-run, script-run, led-run), and check 17 with the file groups as one
+-- (groups-as).
+use Prim.Native.Nat.{ℕ, _+_, _*_}
+use mathlib.Core.Path.{_≡_, refl, sym, ap, _∙_}
+use mathlib.Core.List.{List, [], _∷_}
+use lib.ListN.{getD}
 use Rattle.format.specs.declared.verdict.Verdict.{Verdict}
-use Rattle.format.specs.declared.verdict.Verdict.the-variants.{Pass, Fail}
-use Rattle.format.specs.Verdicts.{both}
-use Rattle.format.proofs.VerdictLaws.{both-pass, both-fail}
-use Rattle.groups.specs.Groups.{countCheck, countsCheck}
+use Rattle.format.specs.declared.verdict.Verdict.the-variants.{Pass}
+use Rattle.format.specs.Verdicts.{both, runFrom}
+use Rattle.format.proofs.RunLaws.{both-end, both-assoc}
+use Rattle.tags.specs.Tags.{Look, countIn}
+use Rattle.files.specs.Files.{filesCheck, namesCheck, fileGroups}
+use Rattle.groups.specs.Groups.{needsCheck, pairsCheck, signaturePairs, scriptPairs, ledCheck, ledGroups, groupsCheck}
 
-module _ (s : List ℕ) (section : Section) (n : ℕ) where
-  step : (tag : ℕ) (rest : List ℕ)
-      → countsCheck s section n (tag ∷ rest) ≡ both (countCheck s section n tag) (countsCheck s section n rest)
-  unfolding countsCheck
-  step tag rest = refl
+-- the led groups as a table: a leader and the three tags of its group
+abbrev pub ledTable : List ℕ
+ledTable =
+    1049 ∷ 1048 ∷ 1049 ∷ 1050 ∷
+    1047 ∷ 1047 ∷ 1112 ∷ 1113 ∷
+    1054 ∷ 1053 ∷ 1054 ∷ 1055 ∷
+    1090 ∷ 1090 ∷ 1114 ∷ 1115 ∷
+    1081 ∷ 1080 ∷ 1081 ∷ 1082 ∷ []
 
-  unrolled : (tags : List ℕ) (i : ℕ) → i < length tags → countsCheck s section n (drop i tags)
-      ≡ both (countCheck s section n (getD tags i 0)) (countsCheck s section n (drop (i + 1) tags))
-  unrolled tags i l = rw (drop-cons tags i 0 l, add-one i) (step (getD tags i 0) (drop (suc i) tags))
+module _ (look : Look) where
+  pub signature-run : pairsCheck look (1011 ∷ 1005 ∷ 1012 ∷ 1002 ∷ []) ≡ signaturePairs look
+  unfolding runFrom signaturePairs
+  signature-run = ap (both (needsCheck look 1011 1005)) (both-end (needsCheck look 1012 1002))
 
-  -- in the shape of what is known in a turn: v is what the run began with, r what the tag's check found
-  module _ (tags : List ℕ) (i : ℕ) {v : Verdict} (inv : v ≡ countsCheck s section n (drop i tags)) where
-    module _ {r : Verdict} (p : r ≡ countCheck s section n (getD tags i 0)) (h : i < length tags) where
-      pub turn : r ≡ Pass → v ≡ countsCheck s section n (drop (i + 1) tags)
-      turn k = inv ∙ unrolled tags i h ∙ both-pass (sym p ∙ k)
+  pub script-run : pairsCheck look (1023 ∷ 1085 ∷ 1024 ∷ 1086 ∷ 1025 ∷ 1087 ∷ 1026 ∷ 1088 ∷ []) ≡ scriptPairs look
+  unfolding runFrom scriptPairs
+  script-run =
+      ap
+      (λ (v : Verdict). both (needsCheck look 1023 1085) (both (needsCheck look 1024 1086) (both (needsCheck look 1025 1087) v)))
+      (both-end (needsCheck look 1026 1088))
 
-      pub ends : {number place : ℕ} → r ≡ Fail number place → Fail number place ≡ v
-      ends k = sym (inv ∙ unrolled tags i h ∙ both-fail _ (sym p ∙ k))
+  abbrev pub ledAt : ℕ → Verdict
+  ledAt i = ledCheck look (getD ledTable (4 * i) 0) (getD ledTable (4 * i + 1) 0) (getD ledTable (4 * i + 2) 0) (getD ledTable (4 * i + 3) 0)
 
-    pub spent : length tags ≤ i → Pass ≡ v
-    unfolding countsCheck
-    spent l = sym (inv ∙ rw (drop-of-length-le tags l))
+  pub led-run : ledGroups look ≡ runFrom ledAt 5 0
+  unfolding runFrom ledGroups
+  led-run =
+      ap
+      (λ (v : Verdict). both (ledCheck look 1049 1048 1049 1050) (both (ledCheck look 1047 1047 1112 1113)
+      (both (ledCheck look 1054 1053 1054 1055) (both (ledCheck look 1090 1090 1114 1115) v))))
+      (sym (both-end (ledCheck look 1081 1080 1081 1082)))
+
+pub groups-as : (signature header : Look) → groupsCheck signature header
+    ≡ both (signaturePairs signature) (both (scriptPairs header) (both (fileGroups header) (ledGroups header)))
+unfolding groupsCheck
+groups-as signature header =
+    ap (λ (v : Verdict). both (signaturePairs signature) (both (scriptPairs header) v))
+    (sym (both-assoc (filesCheck header) (namesCheck header (countIn header 1028)) (ledGroups header)))

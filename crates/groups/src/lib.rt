@@ -1,94 +1,38 @@
-// Check 17: groups of tags.
+// Check 17: groups of tags, over the records that were gathered.
 ghost use mathlib.Core.Path.{_≡_};
+ghost use Prim.Native.Nat.{ℕ};
 ghost use mathlib.Core.Bool.{_||_};
 ghost use Rattle.tags.specs.Tags.{has};
-ghost use Rattle.groups.specs.Groups.{needsCheck, countCheck, countsCheck, fileTags};
-ghost use Rattle.groups.specs.Groups.{signaturePairs, scriptPairs, oldNamesRight, newNamesCheck, namesCheck};
+ghost use Rattle.tags.specs.Tables.{shownBy};
+ghost use Rattle.groups.specs.Groups.{needsCheck, pairsCheck, signaturePairs, scriptPairs};
 ghost use Rattle.groups.specs.Groups.{wholeCheck, ledCheck, ledGroups, groupsCheck};
+use format::Verdict;
+use tags::Table;
 use tags::count;
 use tags::has;
-use format::Section;
-use format::Verdict;
 
 // One tag needs another.
-fn needs(pkg: &[u8], section: Section, tag: u32, other: u32) -> Verdict
-    ensures { λ r. ⌜ r ≡ needsCheck (now (pkg .entry)) section tag other ⌝ }
+fn needs(tags: &[u32; Table::NUMBERS], tag: u32, other: u32) -> Verdict
+    ensures { λ r. ⌜ r ≡ needsCheck (shownBy (now (tags .entry))) tag other ⌝ }
 {
-    if !has(pkg, section, tag) {
+    if !has(tags, tag) {
         return Verdict::Pass;
     }
-    if has(pkg, section, other) {
+    if has(tags, other) {
         return Verdict::Pass;
     }
     Verdict::Fail(17, other)
 }
 
-// A tag that is present has a count.
-fn counts(pkg: &[u8], section: Section, n: u32, tag: u32) -> Verdict
-    ensures { λ r. ⌜ r ≡ countCheck (now (pkg .entry)) section n tag ⌝ }
+// Pairs in a row: each first tag needs the second.
+fn pairs(tags: &[u32; Table::NUMBERS], pairs: &[u32]) -> Verdict
+    ensures { λ r. ⌜ r ≡ pairsCheck (shownBy (now (tags .entry))) (now (pairs .entry)) ⌝ }
 {
-    if !has(pkg, section, tag) {
-        return Verdict::Pass;
-    }
-    if count(pkg, section, tag) == n {
-        return Verdict::Pass;
-    }
-    Verdict::Fail(17, tag)
-}
-
-// The signature's pairs.
-fn signature_pairs(pkg: &[u8], signature: Section) -> Verdict
-    ensures { λ r. ⌜ r ≡ signaturePairs (now (pkg .entry)) signature ⌝ }
-{
-    let v = needs(pkg, signature, 1011, 1005);
-    if let Verdict::Fail(number, place) = v {
-        return Verdict::Fail(number, place);
-    }
-    needs(pkg, signature, 1012, 1002)
-}
-
-// Scripts need their programs.
-fn script_pairs(pkg: &[u8], header: Section) -> Verdict
-    ensures { λ r. ⌜ r ≡ scriptPairs (now (pkg .entry)) header ⌝ }
-{
-    let v = needs(pkg, header, 1023, 1085);
-    if let Verdict::Fail(number, place) = v {
-        return Verdict::Fail(number, place);
-    }
-    let v = needs(pkg, header, 1024, 1086);
-    if let Verdict::Fail(number, place) = v {
-        return Verdict::Fail(number, place);
-    }
-    let v = needs(pkg, header, 1025, 1087);
-    if let Verdict::Fail(number, place) = v {
-        return Verdict::Fail(number, place);
-    }
-    needs(pkg, header, 1026, 1088)
-}
-
-// The tags that have one value for each file.
-const FILE_TAGS: [u32; 12] = [
-    1030,
-    1033,
-    1034,
-    1035,
-    1036,
-    1037,
-    1039,
-    1040,
-    1045,
-    1095,
-    1096,
-    1097,
-];
-
-// Each tag of the files has the count of 1028.
-fn files(pkg: &[u8], header: Section, n: u32) -> Verdict
-    ensures { λ r. ⌜ r ≡ countsCheck (now (pkg .entry)) header n fileTags ⌝ }
-{
+    let n = pairs.len() / 2;
     let mut i = 0;
-    while i < 12 {
-        let v = counts(pkg, header, n, FILE_TAGS[i]);
+    while i < n {
+        let at = 2 * i;
+        let v = needs(tags, pairs[at], pairs[at + 1]);
         if let Verdict::Fail(number, place) = v {
             return Verdict::Fail(number, place);
         }
@@ -97,155 +41,136 @@ fn files(pkg: &[u8], header: Section, n: u32) -> Verdict
     Verdict::Pass
 }
 
-// The old form of the file names stands alone, with the count of 1028.
-fn old_names_right(pkg: &[u8], header: Section, n: u32) -> bool
-    ensures { λ r. ⌜ r ≡ oldNamesRight (now (pkg .entry)) header n ⌝ }
+// The signature's pairs.
+fn signature_pairs(signature: &[u32; Table::NUMBERS]) -> Verdict
+    ensures { λ r. ⌜ r ≡ signaturePairs (shownBy (now (signature .entry))) ⌝ }
 {
-    if count(pkg, header, 1027) != n {
-        return false;
-    }
-    if has(pkg, header, 1116) {
-        return false;
-    }
-    if has(pkg, header, 1117) {
-        return false;
-    }
-    if has(pkg, header, 1118) {
-        return false;
-    }
-    true
+    let table: [u32; 4] = [1011, 1005, 1012, 1002];
+    pairs(signature, &table)
 }
 
-// The new form of the file names is whole.
-fn new_names(pkg: &[u8], header: Section, n: u32) -> Verdict
-    ensures { λ r. ⌜ r ≡ newNamesCheck (now (pkg .entry)) header n ⌝ }
+// Scripts need their programs.
+fn script_pairs(header: &[u32; Table::NUMBERS]) -> Verdict
+    ensures { λ r. ⌜ r ≡ scriptPairs (shownBy (now (header .entry))) ⌝ }
 {
-    if !has(pkg, header, 1116) {
-        return Verdict::Fail(17, 1116);
-    }
-    if !has(pkg, header, 1117) {
-        return Verdict::Fail(17, 1117);
-    }
-    if !has(pkg, header, 1118) {
-        return Verdict::Fail(17, 1118);
-    }
-    if count(pkg, header, 1116) != n {
-        return Verdict::Fail(17, 1116);
-    }
-    if count(pkg, header, 1117) != n {
-        return Verdict::Fail(17, 1117);
-    }
-    Verdict::Pass
-}
-
-// The file names, in the old form or in the new.
-fn names(pkg: &[u8], header: Section, n: u32) -> Verdict
-    ensures { λ r. ⌜ r ≡ namesCheck (now (pkg .entry)) header n ⌝ }
-{
-    if has(pkg, header, 1027) {
-        if old_names_right(pkg, header, n) {
-            return Verdict::Pass;
-        }
-        return Verdict::Fail(17, 1027);
-    }
-    new_names(pkg, header, n)
+    let table: [u32; 8] = [1023, 1085, 1024, 1086, 1025, 1087, 1026, 1088];
+    pairs(header, &table)
 }
 
 // All of a group of three tags are present, with the count of the leader's.
-fn whole(pkg: &[u8], header: Section, n: u32, a: u32, b: u32, c: u32) -> Verdict
-    ensures { λ r. ⌜ r ≡ wholeCheck (now (pkg .entry)) header n a b c ⌝ }
+fn whole(header: &[u32; Table::NUMBERS], n: u32, a: u32, b: u32, c: u32) -> Verdict
+    ensures { λ r. ⌜ r ≡ wholeCheck (shownBy (now (header .entry))) n a b c ⌝ }
 {
-    if !has(pkg, header, a) {
+    if !has(header, a) {
         return Verdict::Fail(17, a);
     }
-    if !has(pkg, header, b) {
+    if !has(header, b) {
         return Verdict::Fail(17, b);
     }
-    if !has(pkg, header, c) {
+    if !has(header, c) {
         return Verdict::Fail(17, c);
     }
-    if count(pkg, header, a) != n {
+    if count(header, a) != n {
         return Verdict::Fail(17, a);
     }
-    if count(pkg, header, b) != n {
+    if count(header, b) != n {
         return Verdict::Fail(17, b);
     }
-    if count(pkg, header, c) != n {
+    if count(header, c) != n {
         return Verdict::Fail(17, c);
     }
     Verdict::Pass
 }
 
 // Whether one of three tags is present.
-fn any_of(pkg: &[u8], header: Section, a: u32, b: u32, c: u32) -> bool
-    ensures { λ r. let s = now (pkg .entry) in ⌜ r ≡ (has s header a || has s header b || has s header c) ⌝ }
+fn any_of(header: &[u32; Table::NUMBERS], a: u32, b: u32, c: u32) -> bool
+    ensures { λ r. let look = shownBy (now (header .entry)) in ⌜ r ≡ (has look a || has look b || has look c) ⌝ }
 {
-    if has(pkg, header, a) {
+    if has(header, a) {
         return true;
     }
-    if has(pkg, header, b) {
+    if has(header, b) {
         return true;
     }
-    if has(pkg, header, c) {
+    if has(header, c) {
         return true;
     }
     false
 }
 
 // A group of three tags, led by one of them: all or none present, counts equal to the leader's.
-fn led(pkg: &[u8], header: Section, leader: u32, a: u32, b: u32, c: u32) -> Verdict
-    ensures { λ r. ⌜ r ≡ ledCheck (now (pkg .entry)) header leader a b c ⌝ }
+fn led(header: &[u32; Table::NUMBERS], leader: u32, a: u32, b: u32, c: u32) -> Verdict
+    ensures { λ r. ⌜ r ≡ ledCheck (shownBy (now (header .entry))) leader a b c ⌝ }
 {
-    if any_of(pkg, header, a, b, c) {
-        let n = count(pkg, header, leader);
-        return whole(pkg, header, n, a, b, c);
+    if any_of(header, a, b, c) {
+        let n = count(header, leader);
+        return whole(header, n, a, b, c);
     }
     Verdict::Pass
 }
 
+// The led groups, in order: a leader, and the three tags of its group.
+const LED_GROUPS: [u32; 20] = [
+    1049,
+    1048,
+    1049,
+    1050,
+    1047,
+    1047,
+    1112,
+    1113,
+    1054,
+    1053,
+    1054,
+    1055,
+    1090,
+    1090,
+    1114,
+    1115,
+    1081,
+    1080,
+    1081,
+    1082,
+];
+
 // The led groups, in order.
-fn led_groups(pkg: &[u8], header: Section) -> Verdict
-    ensures { λ r. ⌜ r ≡ ledGroups (now (pkg .entry)) header ⌝ }
+fn led_groups(header: &[u32; Table::NUMBERS]) -> Verdict
+    ensures { λ r. ⌜ r ≡ ledGroups (shownBy (now (header .entry))) ⌝ }
 {
-    let v = led(pkg, header, 1049, 1048, 1049, 1050);
-    if let Verdict::Fail(number, place) = v {
-        return Verdict::Fail(number, place);
+    let table = LED_GROUPS;
+    let mut i = 0;
+    while i < 5 {
+        let at = 4 * i;
+        let v = led(
+            header,
+            table[at],
+            table[at + 1],
+            table[at + 2],
+            table[at + 3],
+        );
+        if let Verdict::Fail(number, place) = v {
+            return Verdict::Fail(number, place);
+        }
+        i += 1;
     }
-    let v = led(pkg, header, 1047, 1047, 1112, 1113);
-    if let Verdict::Fail(number, place) = v {
-        return Verdict::Fail(number, place);
-    }
-    let v = led(pkg, header, 1054, 1053, 1054, 1055);
-    if let Verdict::Fail(number, place) = v {
-        return Verdict::Fail(number, place);
-    }
-    let v = led(pkg, header, 1090, 1090, 1114, 1115);
-    if let Verdict::Fail(number, place) = v {
-        return Verdict::Fail(number, place);
-    }
-    led(pkg, header, 1081, 1080, 1081, 1082)
+    Verdict::Pass
 }
 
 // Check 17.
-pub fn check(pkg: &[u8], signature: Section, header: Section) -> Verdict
-    ensures { λ r. ⌜ r ≡ groupsCheck (now (pkg .entry)) signature header ⌝ }
+pub fn check(signature: &[u32; Table::NUMBERS], header: &[u32; Table::NUMBERS]) -> Verdict
+    ensures { λ r. ⌜ r ≡ groupsCheck (shownBy (now (signature .entry))) (shownBy (now (header .entry))) ⌝ }
 {
-    let v = signature_pairs(pkg, signature);
+    let v = signature_pairs(signature);
     if let Verdict::Fail(number, place) = v {
         return Verdict::Fail(number, place);
     }
-    let v = script_pairs(pkg, header);
+    let v = script_pairs(header);
     if let Verdict::Fail(number, place) = v {
         return Verdict::Fail(number, place);
     }
-    let n = count(pkg, header, 1028);
-    let v = files(pkg, header, n);
+    let v = files::check(header);
     if let Verdict::Fail(number, place) = v {
         return Verdict::Fail(number, place);
     }
-    let v = names(pkg, header, n);
-    if let Verdict::Fail(number, place) = v {
-        return Verdict::Fail(number, place);
-    }
-    led_groups(pkg, header)
+    led_groups(header)
 }

@@ -2,18 +2,19 @@
 ghost use mathlib.Core.Path.{_≡_};
 ghost use Prim.Native.Nat.{ℕ, _-_, _≤_};
 ghost use Rattle.catalogue.specs.Catalogue.{catalogue, lineCount, inEdition, lineAt};
+ghost use Rattle.tags.specs.Tables.{shownBy};
 ghost use Rattle.lines.specs.Lines.{lineCheck, lineIf, linesFrom, linesCheck};
 use catalogue::Line;
-use format::Section;
 use format::Verdict;
 use index::Tagged;
-use index::find_tag;
+use tags::Table;
+use tags::look;
 
 // Checks 14 and 15 for one line.
-fn line_check(pkg: &[u8], section: Section, line: Line) -> Verdict
-    ensures { λ r. ⌜ r ≡ lineCheck (now (pkg .entry)) section line ⌝ }
+fn line_check(tags: &[u32; Table::NUMBERS], line: Line) -> Verdict
+    ensures { λ r. ⌜ r ≡ lineCheck (shownBy (now (tags .entry))) line ⌝ }
 {
-    let found = find_tag(pkg, section, line.tag);
+    let found = look(tags, line.tag);
     match found {
         Tagged::Absent => {
             if line.is_required() {
@@ -33,11 +34,11 @@ fn line_check(pkg: &[u8], section: Section, line: Line) -> Verdict
 }
 
 // The same, where the edition has the line.
-fn line_if(edition: u32, pkg: &[u8], section: Section, line: Line) -> Verdict
-    ensures { λ r. ⌜ r ≡ lineIf (inEdition edition) (now (pkg .entry)) section line ⌝ }
+fn line_if(edition: u32, tags: &[u32; Table::NUMBERS], line: Line) -> Verdict
+    ensures { λ r. ⌜ r ≡ lineIf (inEdition edition) (shownBy (now (tags .entry))) line ⌝ }
 {
     if line.in_edition(edition) {
-        line_check(pkg, section, line)
+        line_check(tags, line)
     } else {
         Verdict::Pass
     }
@@ -46,19 +47,18 @@ fn line_if(edition: u32, pkg: &[u8], section: Section, line: Line) -> Verdict
 // Checks 14 and 15 for the lines from number `from` up to number `to`, in order.
 fn lines_from(
     edition: u32,
-    table: [[u32; 4]; Line::ALL],
-    pkg: &[u8],
-    section: Section,
+    table: &[[u32; 4]; Line::ALL],
+    tags: &[u32; Table::NUMBERS],
     from: usize,
     to: usize,
 ) -> Verdict
-    requires { ⌜ (table ≡ catalogue) × (to ≤ lineCount) ⌝ }
-    ensures { λ r. ⌜ r ≡ linesFrom lineAt (inEdition edition) (now (pkg .entry)) section (to - from) from ⌝ }
+    requires { ⌜ (now table ≡ catalogue) × (to ≤ lineCount) ⌝ }
+    ensures { λ r. ⌜ r ≡ linesFrom lineAt (inEdition edition) (shownBy (now (tags .entry))) (to - from) from ⌝ }
 {
     let mut i = from;
     while i < to {
         let numbers = table[i];
-        let v = line_if(edition, pkg, section, Line::of(numbers));
+        let v = line_if(edition, tags, Line::of(numbers));
         if let Verdict::Fail(number, place) = v {
             return Verdict::Fail(number, place);
         }
@@ -68,13 +68,17 @@ fn lines_from(
 }
 
 // Checks 14 and 15: the signature's lines, then the header's.
-pub fn check(edition: u32, pkg: &[u8], signature: Section, header: Section) -> Verdict
-    ensures { λ r. ⌜ r ≡ linesCheck (inEdition edition) (now (pkg .entry)) signature header ⌝ }
+pub fn check(
+    edition: u32,
+    signature: &[u32; Table::NUMBERS],
+    header: &[u32; Table::NUMBERS],
+) -> Verdict
+    ensures { λ r. ⌜ r ≡ linesCheck (inEdition edition) (shownBy (now (signature .entry))) (shownBy (now (header .entry))) ⌝ }
 {
     let table = catalogue::table();
-    let v = lines_from(edition, table, pkg, signature, 0, Line::SIGNATURE);
+    let v = lines_from(edition, &table, signature, 0, Line::SIGNATURE);
     if let Verdict::Fail(number, place) = v {
         return Verdict::Fail(number, place);
     }
-    lines_from(edition, table, pkg, header, Line::SIGNATURE, Line::ALL)
+    lines_from(edition, &table, header, Line::SIGNATURE, Line::ALL)
 }

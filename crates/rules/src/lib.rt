@@ -3,8 +3,6 @@ ghost use mathlib.Core.Path.{_≡_};
 ghost use Prim.Native.Nat.{ℕ, _-_};
 ghost use Rattle.catalogue.specs.Catalogue.{inEdition};
 ghost use Rattle.rules.specs.Rules.{sizeTagCheck, rulesCheck};
-
-
 use format::Section;
 use format::Verdict;
 

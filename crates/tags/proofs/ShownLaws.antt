@@ -54,20 +54,24 @@ module _ (e : IndexRecord) (t : List ℕ) where
   unfolding numbers
   record-put k l n =
       let z : 4 * k + 0 ≡ 4 * k = omega arith in
-      rw (rw z at (sets-at (numbers e) t (4 * k) 0 (omega arith) (omega arith)),
-      sets-at (numbers e) t (4 * k) 1 (omega arith) (omega arith),
-      sets-at (numbers e) t (4 * k) 2 (omega arith) (omega arith),
-      sets-at (numbers e) t (4 * k) 3 (omega arith) (omega arith))
+      rw (
+        rw z at (sets-at (numbers e) t (4 * k) 0 (omega arith) (omega arith)),
+        sets-at (numbers e) t (4 * k) 1 (omega arith) (omega arith),
+        sets-at (numbers e) t (4 * k) 2 (omega arith) (omega arith),
+        sets-at (numbers e) t (4 * k) 3 (omega arith) (omega arith),
+      )
 
   -- another slot
   record-kept : (k j : ℕ) → (j ≡ k → ⊥) → recordIn (sets t (4 * k) (numbers e)) j ≡ recordIn t j
   unfolding numbers
   record-kept k j h =
       let z : 4 * j + 0 ≡ 4 * j = omega arith in
-      rw (sets-kept (numbers e) t (4 * k) (4 * j) (rw z at (apart 0 (omega arith))),
-      sets-kept (numbers e) t (4 * k) (4 * j + 1) (apart 1 (omega arith)),
-      sets-kept (numbers e) t (4 * k) (4 * j + 2) (apart 2 (omega arith)),
-      sets-kept (numbers e) t (4 * k) (4 * j + 3) (apart 3 (omega arith)))
+      rw (
+        sets-kept (numbers e) t (4 * k) (4 * j) (rw z at (apart 0 (omega arith))),
+        sets-kept (numbers e) t (4 * k) (4 * j + 1) (apart 1 (omega arith)),
+        sets-kept (numbers e) t (4 * k) (4 * j + 2) (apart 2 (omega arith)),
+        sets-kept (numbers e) t (4 * k) (4 * j + 3) (apart 3 (omega arith)),
+      )
     where
       apart : (m : ℕ) → m < 4 → (4 * j + m < 4 * k) ⊎ (4 * k + 4 ≤ 4 * j + m)
       apart m l = go (ltb j k) refl

@@ -89,14 +89,12 @@ pub fn look(table: &[u32; Table::NUMBERS], tag: u32) -> Tagged
     let ty = table[at + 1];
     let offset = table[at + 2];
     let count = table[at + 3];
-    Tagged::Present(
-        IndexRecord {
-            tag: tag,
-            ty: ty,
-            offset: StoreOffset(offset),
-            count: count,
-        },
-    )
+    Tagged::Present(IndexRecord {
+        tag: tag,
+        ty: ty,
+        offset: StoreOffset(offset),
+        count: count,
+    })
 }
 
 // Whether a table has the tag.
@@ -130,12 +128,7 @@ pub fn count(table: &[u32; Table::NUMBERS], tag: u32) -> u32
 }
 
 // The 32-bit number that a tag's data begins with; 0 where the tag is absent.
-pub fn number(
-    pkg: &[u8],
-    section: Section,
-    table: &[u32; Table::NUMBERS],
-    tag: u32,
-) -> u32
+pub fn number(pkg: &[u8], section: Section, table: &[u32; Table::NUMBERS], tag: u32) -> u32
     ensures { λ r. ⌜ r ≡ numberIn (now (pkg .entry)) section (shownBy (now (table .entry))) tag ⌝ }
 {
     let found = look(table, tag);

@@ -2,13 +2,13 @@
 ghost use mathlib.Core.Path.{_≡_};
 ghost use Prim.Native.Nat.{ℕ, _+_, _*_, _<_};
 ghost use Rattle.texts.specs.Texts.{textIs, allBelow, indexesBelow, slashesEnd, directoriesEnd, textsCheck};
-use tags::count;
 use format::Section;
 use format::Verdict;
 use index::Found;
 use index::Tagged;
 use index::find_entry;
 use index::find_tag;
+use tags::count;
 
 // Whether a tag's data is a text, where the tag is present.
 fn text_is(pkg: &[u8], section: Section, text: &[u8], tag: u32) -> bool

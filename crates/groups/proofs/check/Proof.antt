@@ -1,8 +1,7 @@
--- Part by part, in order.
--- Assumes nothing.
-use borrow.Author.Needs.{needs}
+-- Part by part, in order. Assumes nothing.
 use Rattle.format.proofs.VerdictLaws.{went, halted}
-use Rattle.groups.specs.Groups.{groupsCheck}
+use Rattle.groups.proofs.GroupsLaws.{groups-as}
+use borrow.Author.Needs.{needs}
 use Rattle.groups.proofs.check.Statement.{statement}
 use Rattle.groups.proofs.check.Tie as tie
 
@@ -13,8 +12,7 @@ enum-known-v : tie.Need-enum-known-v
 enum-known-v c = search needs
 
 returns : tie.Need-returns
-unfolding groupsCheck
-returns c = search (went, halted) depth 12
+returns c = rw (groups-as _ _) (search (went, halted) depth 12)
 
 enum-told : tie.Need-enum-told
 enum-told c = search needs
@@ -26,53 +24,28 @@ enum-known-v-2 : tie.Need-enum-known-v-2
 enum-known-v-2 c = search needs
 
 returns-2 : tie.Need-returns-2
-unfolding groupsCheck
-returns-2 c = search (went, halted) depth 12
+returns-2 c = rw (groups-as _ _) (search (went, halted) depth 12)
 
 enum-told-2 : tie.Need-enum-told-2
 enum-told-2 c = search needs
 
-count-requires : tie.Need-count-requires
-count-requires c κs = search needs
-
-files-requires : tie.Need-files-requires
-files-requires c κs = search needs
+check-requires : tie.Need-check-requires
+check-requires c κs = search needs
 
 enum-known-v-3 : tie.Need-enum-known-v-3
 enum-known-v-3 c = search needs
 
 returns-3 : tie.Need-returns-3
-unfolding groupsCheck
-returns-3 c =
-    let at-count = c .before .before .before .before in
-    rw (← (at-count .count .ensures)) (search (went, halted) depth 12)
+returns-3 c = rw (groups-as _ _) (search (went, halted) depth 12)
 
 enum-told-3 : tie.Need-enum-told-3
 enum-told-3 c = search needs
 
-names-requires : tie.Need-names-requires
-names-requires c κs = search needs
-
-enum-known-v-4 : tie.Need-enum-known-v-4
-enum-known-v-4 c = search needs
-
-returns-4 : tie.Need-returns-4
-unfolding groupsCheck
-returns-4 c =
-    let at-count = c .before .before .before .before .before .before .before in
-    rw (← (at-count .count .ensures)) (search (went, halted) depth 12)
-
-enum-told-4 : tie.Need-enum-told-4
-enum-told-4 c = search needs
-
 led-groups-requires : tie.Need-led-groups-requires
 led-groups-requires c κs = search needs
 
-returns-5 : tie.Need-returns-5
-unfolding groupsCheck
-returns-5 c =
-    let at-count = c .before .before .before .before .before .before .before in
-    rw (← (at-count .count .ensures)) (search (went, halted) depth 12)
+returns-4 : tie.Need-returns-4
+returns-4 c = rw (groups-as _ _) (search (went, halted) depth 12)
 
 pub check-spec : {M : Type 1} → statement M
 check-spec =
@@ -86,14 +59,9 @@ check-spec =
     enum-known-v-2
     returns-2
     enum-told-2
-    count-requires
-    files-requires
+    check-requires
     enum-known-v-3
     returns-3
     enum-told-3
-    names-requires
-    enum-known-v-4
-    returns-4
-    enum-told-4
     led-groups-requires
-    returns-5)
+    returns-4)

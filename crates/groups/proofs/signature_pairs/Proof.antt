@@ -1,31 +1,18 @@
--- Part by part, in order.
--- Assumes nothing.
+-- The pairs in a row. Assumes nothing.
+use mathlib.Core.Path.{_∙_}
+use Rattle.groups.proofs.GroupsLaws.{signature-run}
 use borrow.Author.Needs.{needs}
-use Rattle.format.proofs.VerdictLaws.{went, halted}
-use Rattle.groups.specs.Groups.{signaturePairs}
 use Rattle.groups.proofs.signature_pairs.Statement.{statement}
 use Rattle.groups.proofs.signature_pairs.Tie as tie
 
-needs-requires : tie.Need-needs-requires
-needs-requires c κs = search needs
+slice-aggregate-pairs : tie.Need-slice-aggregate-pairs
+slice-aggregate-pairs c = search needs
 
-enum-known-v : tie.Need-enum-known-v
-enum-known-v c = search needs
+pairs-requires : tie.Need-pairs-requires
+pairs-requires c κs = search needs
 
 returns : tie.Need-returns
-unfolding signaturePairs
-returns c = search (went, halted) depth 12
-
-enum-told : tie.Need-enum-told
-enum-told c = search needs
-
-needs-requires-2 : tie.Need-needs-requires-2
-needs-requires-2 c κs = search needs
-
-returns-2 : tie.Need-returns-2
-unfolding signaturePairs
-returns-2 c = search (went, halted) depth 12
+returns c = c .pairs .ensures ∙ signature-run _
 
 pub signature-pairs-spec : {M : Type 1} → statement M
-signature-pairs-spec =
-    tie.close (tie.spec needs-requires enum-known-v returns enum-told needs-requires-2 returns-2)
+signature-pairs-spec = tie.close (tie.spec slice-aggregate-pairs pairs-requires returns)

@@ -29,7 +29,7 @@ enum-told : tie.Need-enum-told
 enum-told c = search needs
 
 returns : tie.Need-returns
-returns c = 
+returns c =
     by-case (numberAt _ _) (shownBy _ _) (search) (c .before .before .before .found .given .1)
     (c .be32 .ensures ∙ ap (be32At _) (c .before .in-file .ensures))
 

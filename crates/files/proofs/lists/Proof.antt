@@ -1,23 +1,26 @@
--- The tags that are left decide.
--- Assumes nothing.
-use Prim.Native.Nat.{_≤_, _-_}
+-- The tags that are left decide. Assumes nothing.
+use Prim.Native.Nat.{ℕ, _≤_, _-_}
 use mathlib.Core.Path.{_≡_}
-use lib.ListN.{drop}
+use lib.ListN.{getD}
+use Rattle.format.specs.Verdicts.{runFrom}
+use Rattle.tags.specs.Tables.{shownBy}
+use Rattle.files.specs.Files.{countCheck, countsCheck, fileTags}
+use Rattle.files.proofs.FilesLaws.{lists-run}
 use borrow.Author.Needs.{needs}
-use Rattle.groups.specs.Groups.{countsCheck, fileTags}
-use Rattle.groups.proofs.GroupsLaws as laws
-use Rattle.groups.proofs.files.Statement.{statement}
-use Rattle.groups.proofs.files.Tie as tie
+use Rattle.format.proofs.RunLaws as laws
+use Rattle.files.proofs.lists.Statement.{statement}
+use Rattle.files.proofs.lists.Tie as tie
 
 abbrev Inv-loop : tie.InvT-loop
-Inv-loop pkg header n i₀ i = (i ≤ 12)
-    × (countsCheck pkg header n fileTags ≡ countsCheck pkg header n (drop i fileTags))
+Inv-loop header n table i₀ i = (i ≤ 12)
+    × (countsCheck (shownBy header) n fileTags
+    ≡ runFrom (λ (k : ℕ). countCheck (shownBy header) n (getD fileTags k 0)) (12 - i) i)
 
 abbrev μ-loop : tie.MeasureT-loop
-μ-loop pkg header n i₀ i = 12 - i
+μ-loop header n table i₀ i = 12 - i
 
 loop-holds : tie.Need-loop-holds Inv-loop μ-loop
-loop-holds c = search needs
+loop-holds c = (search needs, search lists-run)
 
 mul-counts : tie.Need-mul-counts Inv-loop μ-loop
 mul-counts c = search needs
@@ -49,8 +52,8 @@ loop-again c = (search needs, search laws.turn)
 returns-2 : tie.Need-returns-2 Inv-loop μ-loop
 returns-2 c = search laws.spent
 
-pub files-spec : {M : Type 1} → statement M
-files-spec =
+pub lists-spec : {M : Type 1} → statement M
+lists-spec =
     tie.close
     (tie.spec
     Inv-loop
