@@ -1,10 +1,10 @@
 -- Laws of the texts' scans, one for each way through a turn (below-turn, below-ends, below-spent; slash-zero,
--- slash-other, slash-ends, slash-spent), of 1116's numbers as they are found (below-present, below-absent), and of
--- where an entry ends (extent-le).
+-- slash-other, slash-ends, slash-spent), of an entry as it is looked up (entry-present, entry-absent), of 1116's numbers
+-- (below-present, below-absent), of where an entry ends (extent-le), and of the programs as one run (texts-as).
 use Prim.Native.Nat.{ℕ, suc, _+_, _-_, _*_, _≤_, _<_}
 use mathlib.Core.Path.{_≡_, refl, sym, ap, _∙_}
 use mathlib.Core.List.{List}
-use mathlib.Core.Bool.{Bool, true, false, cond, _&&_}
+use mathlib.Core.Bool.{Bool, true, false, cond, not, _&&_}
 use lib.Dec.{eqb, ltb, leb}
 use lib.ListN.{getD}
 use native.Mathlib.Omega.{arith}
@@ -21,14 +21,20 @@ use Rattle.entries.specs.declared.types.ElementSize.{ElementSize}
 use Rattle.entries.specs.declared.types.ElementSize.the-variants.{Bytes, ToZero, Unlawful}
 use Rattle.index.specs.declared.Entry.{Entry}
 use Rattle.index.specs.declared.Found.{Found}
-use Rattle.index.specs.declared.Found.the-variants.{At}
+use Rattle.index.specs.declared.Found.the-variants.{At, Nothing}
 use Rattle.index.specs.declared.Tagged.{Tagged}
 use Rattle.index.specs.declared.Tagged.the-variants.{Present, Absent}
 use Rattle.entries.specs.Types.{elementSize}
 use Rattle.entries.specs.Entries.{endFor, dataEnd}
-use Rattle.index.specs.Lookup.{extentTo, entryOf, entryFor, taggedIn}
-use Rattle.tags.specs.Tags.{countIn}
-use Rattle.texts.specs.Texts.{allBelow, indexesBelow, slashesEnd}
+use Rattle.index.specs.Lookup.{extentTo, entryOf, entryFor}
+use Rattle.tags.specs.Tags.{Look, countIn}
+use Rattle.format.specs.declared.verdict.Verdict.{Verdict}
+use Rattle.format.specs.declared.verdict.Verdict.the-variants.{Pass, Fail}
+use Rattle.format.specs.Verdicts.{check, both, runFrom}
+use Rattle.format.proofs.VerdictLaws.{passed, stopped, told, untold}
+use Rattle.format.proofs.RunLaws.{turn, ends}
+use Rattle.texts.specs.Texts.{linux, binSh, textIs, programs, programCheck, programsCheck, allBelow, indexesBelow, slashesEnd}
+use Rattle.texts.specs.Texts.{directoriesEnd, textsCheck}
 
 -- v is what the scan began with, left what is left of it
 module _ (s : List ℕ) (limit : ℕ) where
@@ -52,13 +58,22 @@ module _ (s : List ℕ) (limit : ℕ) where
     unfolding allBelow
     below-spent l = let k : left ≡ 0 = omega arith in sym (rw k at inv)
 
--- by whether 1116 was found: r is what the search found
-module _ (s : List ℕ) (header : Section) {r : Tagged} (p : r ≡ taggedIn s header 1116) where
-  pub below-present : {limit at : ℕ} {e : IndexRecord} {v : Bool} → limit ≡ countIn s header 1118 → r ≡ Present e
-      → at ≡ inFile header (e .offset) → v ≡ allBelow s limit (e .count) at → v ≡ indexesBelow s header
+-- the entry of a record that was looked up
+module _ (s : List ℕ) (section : Section) (t : Tagged) {r : Tagged} (p : r ≡ t) where
+  pub entry-present : {e : IndexRecord} {end : Ending} {entry : Entry} → r ≡ Present e → end ≡ dataEnd s section e
+      → entry ≡ entryOf section e end → At entry ≡ entryFor s section t
+  entry-present h g q = rw (sym p ∙ h) (ap At (rw g at q))
+
+  pub entry-absent : r ≡ Absent → Nothing ≡ entryFor s section t
+  entry-absent h = rw (sym p ∙ h)
+
+-- by whether 1116 was found: r is what was looked up
+module _ (s : List ℕ) (header : Section) (look : Look) {r : Tagged} (p : r ≡ look 1116) where
+  pub below-present : {limit at : ℕ} {e : IndexRecord} {v : Bool} → limit ≡ countIn look 1118 → r ≡ Present e
+      → at ≡ inFile header (e .offset) → v ≡ allBelow s limit (e .count) at → v ≡ indexesBelow s header look
   below-present l h q k = rw (sym p ∙ h, ← l) (rw q at k)
 
-  pub below-absent : r ≡ Absent → true ≡ indexesBelow s header
+  pub below-absent : r ≡ Absent → true ≡ indexesBelow s header look
   below-absent h = rw (sym p ∙ h)
 
 -- b is the byte that was read, last the one before it
@@ -120,3 +135,38 @@ extent-le s section (Present e) {entry = entry} p h =
     let q : entryOf section e (dataEnd s section e) ≡ entry = cc in
     rw (← q) (end-le s section e (elementSize (e .ty)))
 extent-le s section Absent p h = let z : _≡_ {A = ℕ} 0 1 = cc in absurd (omega arith)
+
+-- the programs, one for each way through a turn: r is whether program i is right
+module _ (s : List ℕ) (header : Section) (look : Look) where
+  abbrev pub programAt : ℕ → Verdict
+  programAt k = programCheck s header look (getD programs k 0)
+
+  module _ (i : ℕ) {v : Verdict} (inv : v ≡ runFrom programAt (4 - i) i) {r : Bool}
+      (p : r ≡ textIs s header look binSh (getD programs i 0)) (h : i < 4) where
+    pub program-turn : not r ≡ false → v ≡ runFrom programAt (4 - (i + 1)) (i + 1)
+    program-turn k = turn programAt 4 i inv (passed 18 (getD programs i 0) (told p k) refl) h refl
+
+    pub program-ends : not r ≡ true → Fail 18 (getD programs i 0) ≡ v
+    program-ends k = ends programAt 4 i inv (stopped Pass (untold p k)) h refl
+
+chain : (a b c d : Bool) (rest : Verdict)
+    → check a 18 1085 (check b 18 1086 (check c 18 1087 (check d 18 1088 rest)))
+    ≡ both (both (check a 18 1085 Pass) (both (check b 18 1086 Pass) (both (check c 18 1087 Pass) (both (check d 18 1088 Pass) Pass)))) rest
+unfolding check both
+chain false b c d rest = refl
+chain true false c d rest = refl
+chain true true false d rest = refl
+chain true true true false rest = refl
+chain true true true true rest = refl
+
+pub texts-as : (s : List ℕ) (header : Section) (look : Look) → textsCheck s header look
+    ≡ check (textIs s header look linux 1021) 18 1021
+    (both (programsCheck s header look)
+    (check (indexesBelow s header look) 18 1116
+    (check (directoriesEnd s header look) 18 1118
+    Pass)))
+unfolding textsCheck runFrom
+texts-as s header look =
+    ap (check (textIs s header look linux 1021) 18 1021)
+    (chain (textIs s header look binSh 1085) (textIs s header look binSh 1086) (textIs s header look binSh 1087)
+    (textIs s header look binSh 1088) (check (indexesBelow s header look) 18 1116 (check (directoriesEnd s header look) 18 1118 Pass)))

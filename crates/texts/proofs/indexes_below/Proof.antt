@@ -1,15 +1,14 @@
--- By whether a record has the tag.
--- Assumes nothing.
-use borrow.Author.Needs.{needs}
+-- By whether the tag is shown. Assumes nothing.
 use Rattle.texts.proofs.TextsLaws as laws
+use borrow.Author.Needs.{needs}
 use Rattle.texts.proofs.indexes_below.Statement.{statement}
 use Rattle.texts.proofs.indexes_below.Tie as tie
 
 count-requires : tie.Need-count-requires
 count-requires c κs = search needs
 
-find-tag-requires : tie.Need-find-tag-requires
-find-tag-requires c κs = search needs
+look-requires : tie.Need-look-requires
+look-requires c κs = search needs
 
 enum-known-found : tie.Need-enum-known-found
 enum-known-found c = search needs
@@ -34,7 +33,7 @@ indexes-below-spec =
     tie.close
     (tie.spec
     count-requires
-    find-tag-requires
+    look-requires
     enum-known-found
     in-file-requires
     all-below-requires
