@@ -1,1 +1,2 @@
 pub mod GroupsLaws
+pub mod SlotLaws

@@ -12,7 +12,11 @@ use Rattle.tags.specs.Tags.{Look}
 use Rattle.lines.specs.Lines.{lineIf, linesFrom}
 
 module _ (line : ℕ → Line) (hasLine : Line → Bool) (look : Look) where
-  step : (n i : ℕ) → linesFrom line hasLine look (suc n) i
+  pub none : (i : ℕ) → linesFrom line hasLine look 0 i ≡ Pass
+  unfolding linesFrom
+  none i = refl
+
+  pub step : (n i : ℕ) → linesFrom line hasLine look (suc n) i
       ≡ both (lineIf hasLine look (line i)) (linesFrom line hasLine look n (i + 1))
   unfolding linesFrom
   step n i = refl

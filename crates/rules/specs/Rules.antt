@@ -1,4 +1,4 @@
--- Document 01, checks 14 to 18 over a package's two structures.
+-- Document 01, checks 14 to 18 over a package's two structures. They ask of a structure only what it shows for a tag.
 use Prim.Native.Nat.{ℕ, _-_}
 use mathlib.Core.List.{List}
 use mathlib.Core.Bool.{Bool}
@@ -7,20 +7,27 @@ use Rattle.format.specs.declared.places.Section.{Section}
 use Rattle.format.specs.declared.verdict.Verdict.{Verdict}
 use Rattle.format.specs.declared.verdict.Verdict.the-variants.{Pass}
 use Rattle.format.specs.Verdicts.{check, both}
+use Rattle.index.specs.Lookup.{taggedIn}
 use Rattle.catalogue.specs.declared.Line.{Line}
-use Rattle.tags.specs.Tags.{numberIn}
+use Rattle.tags.specs.Tags.{Look, numberIn}
 use Rattle.lines.specs.Lines.{linesCheck}
 use Rattle.groups.specs.Groups.{groupsCheck}
 use Rattle.texts.specs.Texts.{textsCheck}
 
 -- 16 | the signature's 1000 isn't length − H | 1000
-unfoldable pub sizeTagCheck : List ℕ → ℕ → Section → Section → Verdict
-sizeTagCheck s len signature header = check (eqb (numberIn s signature 1000) (len - header .start)) 16 1000 Pass
+unfoldable pub sizeTagCheck : List ℕ → ℕ → Section → Section → Look → Verdict
+sizeTagCheck s len signature header look =
+    check (eqb (numberIn s signature look 1000) (len - header .start)) 16 1000 Pass
 
--- 14 to 18
-unfoldable pub rulesCheck : (Line → Bool) → List ℕ → ℕ → Section → Section → Verdict
+-- 14 to 18, by what signature and header show
+unfoldable pub rulesOver : (Line → Bool) → List ℕ → ℕ → Section → Section → Look → Look → Verdict
+rulesOver hasLine s len signature header inSignature inHeader =
+    both (linesCheck hasLine inSignature inHeader)
+    (both (sizeTagCheck s len signature header inSignature)
+    (both (groupsCheck inSignature inHeader)
+    (textsCheck s header inHeader)))
+
+-- 14 to 18, by the records of the two indexes
+abbrev pub rulesCheck : (Line → Bool) → List ℕ → ℕ → Section → Section → Verdict
 rulesCheck hasLine s len signature header =
-    both (linesCheck hasLine s signature header)
-    (both (sizeTagCheck s len signature header)
-    (both (groupsCheck s signature header)
-    (textsCheck s header)))
+    rulesOver hasLine s len signature header (taggedIn s signature) (taggedIn s header)

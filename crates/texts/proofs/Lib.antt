@@ -1,1 +1,2 @@
 pub mod TextsLaws
+pub mod SlotLaws

@@ -4,57 +4,42 @@ use Rattle.files.specs.Files.{newNamesCheck}
 use Rattle.tags.proofs.TestLaws.{same-number, other-number}
 use Rattle.files.proofs.new_names.Statement.{statement}
 use Rattle.files.proofs.new_names.Tie as tie
-use Rattle.files.proofs.new_names.Reads as reads
-use Rattle.files.proofs.new_names.Lts as lts
-use Rattle.tags.proofs.count.Reads as count-reads
-use Rattle.tags.proofs.has.Reads as has-reads
 
--- src/lib.rt:80:9
 has-requires : tie.Need-has-requires
 has-requires c κs = search needs
 
--- src/lib.rt:81:9
 returns : tie.Need-returns
 unfolding newNamesCheck
 returns c = search (passed, stopped, answers, same-number, other-number) depth 14
 
--- src/lib.rt:83:9
 has-requires-2 : tie.Need-has-requires-2
 has-requires-2 c κs = search needs
 
--- src/lib.rt:84:9
 returns-2 : tie.Need-returns-2
 unfolding newNamesCheck
 returns-2 c = search (passed, stopped, answers, same-number, other-number) depth 14
 
--- src/lib.rt:86:9
 has-requires-3 : tie.Need-has-requires-3
 has-requires-3 c κs = search needs
 
--- src/lib.rt:87:9
 returns-3 : tie.Need-returns-3
 unfolding newNamesCheck
 returns-3 c = search (passed, stopped, answers, same-number, other-number) depth 14
 
--- src/lib.rt:89:8
 count-requires : tie.Need-count-requires
 count-requires c κs = search needs
 
--- src/lib.rt:90:9
 returns-4 : tie.Need-returns-4
 unfolding newNamesCheck
 returns-4 c = search (passed, stopped, answers, same-number, other-number) depth 14
 
--- src/lib.rt:92:8
 count-requires-2 : tie.Need-count-requires-2
 count-requires-2 c κs = search needs
 
--- src/lib.rt:93:9
 returns-5 : tie.Need-returns-5
 unfolding newNamesCheck
 returns-5 c = search (passed, stopped, answers, same-number, other-number) depth 14
 
--- src/lib.rt:77:1
 returns-6 : tie.Need-returns-6
 unfolding newNamesCheck
 returns-6 c = search (passed, stopped, answers, same-number, other-number) depth 14

@@ -5,48 +5,35 @@ use Rattle.files.specs.Files.{oldNamesRight}
 use Rattle.tags.proofs.TestLaws.{made}
 use Rattle.files.proofs.old_names_right.Statement.{statement}
 use Rattle.files.proofs.old_names_right.Tie as tie
-use Rattle.files.proofs.old_names_right.Reads as reads
-use Rattle.files.proofs.old_names_right.Lts as lts
-use Rattle.tags.proofs.count.Reads as count-reads
-use Rattle.tags.proofs.has.Reads as has-reads
 
--- src/lib.rt:61:8
 count-requires : tie.Need-count-requires
 count-requires c κs = search needs
 
--- src/lib.rt:62:9
 returns : tie.Need-returns
 unfolding oldNamesRight
 returns c = sym (search (made, answers) depth 10)
 
--- src/lib.rt:64:8
 has-requires : tie.Need-has-requires
 has-requires c κs = search needs
 
--- src/lib.rt:65:9
 returns-2 : tie.Need-returns-2
 unfolding oldNamesRight
 returns-2 c = sym (search (made, answers) depth 10)
 
--- src/lib.rt:67:8
 has-requires-2 : tie.Need-has-requires-2
 has-requires-2 c κs = search needs
 
--- src/lib.rt:68:9
 returns-3 : tie.Need-returns-3
 unfolding oldNamesRight
 returns-3 c = sym (search (made, answers) depth 10)
 
--- src/lib.rt:70:8
 has-requires-3 : tie.Need-has-requires-3
 has-requires-3 c κs = search needs
 
--- src/lib.rt:71:9
 returns-4 : tie.Need-returns-4
 unfolding oldNamesRight
 returns-4 c = sym (search (made, answers) depth 10)
 
--- src/lib.rt:58:1
 returns-5 : tie.Need-returns-5
 unfolding oldNamesRight
 returns-5 c = sym (search (made, answers) depth 10)

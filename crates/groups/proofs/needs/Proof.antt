@@ -4,29 +4,21 @@ use Rattle.groups.specs.Groups.{needsCheck}
 use Rattle.tags.proofs.TestLaws.{made}
 use Rattle.groups.proofs.needs.Statement.{statement}
 use Rattle.groups.proofs.needs.Tie as tie
-use Rattle.groups.proofs.needs.Reads as reads
-use Rattle.groups.proofs.needs.Lts as lts
-use Rattle.tags.proofs.has.Reads as has-reads
 
--- src/lib.rt:18:9
 has-requires : tie.Need-has-requires
 has-requires c κs = search needs
 
--- src/lib.rt:19:9
 returns : tie.Need-returns
 unfolding needsCheck
 returns c = search (passed, stopped, answers, made) depth 8
 
--- src/lib.rt:21:8
 has-requires-2 : tie.Need-has-requires-2
 has-requires-2 c κs = search needs
 
--- src/lib.rt:22:9
 returns-2 : tie.Need-returns-2
 unfolding needsCheck
 returns-2 c = search (passed, stopped, answers, made) depth 8
 
--- src/lib.rt:15:1
 returns-3 : tie.Need-returns-3
 unfolding needsCheck
 returns-3 c = search (passed, stopped, answers, made) depth 8

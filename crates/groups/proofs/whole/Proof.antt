@@ -4,66 +4,49 @@ use Rattle.groups.specs.Groups.{wholeCheck}
 use Rattle.tags.proofs.TestLaws.{same-number, other-number}
 use Rattle.groups.proofs.whole.Statement.{statement}
 use Rattle.groups.proofs.whole.Tie as tie
-use Rattle.groups.proofs.whole.Reads as reads
-use Rattle.groups.proofs.whole.Lts as lts
-use Rattle.tags.proofs.count.Reads as count-reads
-use Rattle.tags.proofs.has.Reads as has-reads
 
--- src/lib.rt:64:9
 has-requires : tie.Need-has-requires
 has-requires c κs = search needs
 
--- src/lib.rt:65:9
 returns : tie.Need-returns
 unfolding wholeCheck
 returns c = search (passed, stopped, answers, same-number, other-number) depth 14
 
--- src/lib.rt:67:9
 has-requires-2 : tie.Need-has-requires-2
 has-requires-2 c κs = search needs
 
--- src/lib.rt:68:9
 returns-2 : tie.Need-returns-2
 unfolding wholeCheck
 returns-2 c = search (passed, stopped, answers, same-number, other-number) depth 14
 
--- src/lib.rt:70:9
 has-requires-3 : tie.Need-has-requires-3
 has-requires-3 c κs = search needs
 
--- src/lib.rt:71:9
 returns-3 : tie.Need-returns-3
 unfolding wholeCheck
 returns-3 c = search (passed, stopped, answers, same-number, other-number) depth 14
 
--- src/lib.rt:73:8
 count-requires : tie.Need-count-requires
 count-requires c κs = search needs
 
--- src/lib.rt:74:9
 returns-4 : tie.Need-returns-4
 unfolding wholeCheck
 returns-4 c = search (passed, stopped, answers, same-number, other-number) depth 14
 
--- src/lib.rt:76:8
 count-requires-2 : tie.Need-count-requires-2
 count-requires-2 c κs = search needs
 
--- src/lib.rt:77:9
 returns-5 : tie.Need-returns-5
 unfolding wholeCheck
 returns-5 c = search (passed, stopped, answers, same-number, other-number) depth 14
 
--- src/lib.rt:79:8
 count-requires-3 : tie.Need-count-requires-3
 count-requires-3 c κs = search needs
 
--- src/lib.rt:80:9
 returns-6 : tie.Need-returns-6
 unfolding wholeCheck
 returns-6 c = search (passed, stopped, answers, same-number, other-number) depth 14
 
--- src/lib.rt:61:1
 returns-7 : tie.Need-returns-7
 unfolding wholeCheck
 returns-7 c = search (passed, stopped, answers, same-number, other-number) depth 14

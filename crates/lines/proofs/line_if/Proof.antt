@@ -2,24 +2,16 @@ use borrow.Author.Needs.{needs}
 use Rattle.tags.proofs.TestLaws.{first-of, second-of, yes, no}
 use Rattle.lines.proofs.line_if.Statement.{statement}
 use Rattle.lines.proofs.line_if.Tie as tie
-use Rattle.lines.proofs.line_if.Reads as reads
-use Rattle.lines.proofs.line_if.Lts as lts
-use Rattle.catalogue.proofs.Line.in_edition.Reads as in-edition-reads
-use Rattle.lines.proofs.line_check.Reads as line-check-reads
 
--- src/lib.rt:40:8
 in-edition-requires : tie.Need-in-edition-requires
 in-edition-requires c κs = search needs
 
--- src/lib.rt:41:9
 line-check-requires : tie.Need-line-check-requires
 line-check-requires c κs = search needs
 
--- src/lib.rt:37:1
 returns : tie.Need-returns
 returns c = search (first-of, second-of, yes, no)
 
--- src/lib.rt:37:1
 returns-2 : tie.Need-returns-2
 returns-2 c = search (first-of, second-of, yes, no)
 

@@ -3,9 +3,6 @@ use Rattle.tags.proofs.TableLaws as laws
 use borrow.Author.Needs.{needs}
 use Rattle.tags.proofs.count.Statement.{statement}
 use Rattle.tags.proofs.count.Tie as tie
-use Rattle.tags.proofs.count.Reads as reads
-use Rattle.tags.proofs.count.Lts as lts
-use Rattle.tags.proofs.slot.Reads as slot-reads
 
 slot-requires : tie.Need-slot-requires
 slot-requires c κs = search needs

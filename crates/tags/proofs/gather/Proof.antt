@@ -6,11 +6,6 @@ use Rattle.tags.specs.Tables.{gatheredFrom}
 use Rattle.tags.proofs.GatherLaws as laws
 use Rattle.tags.proofs.gather.Statement.{statement}
 use Rattle.tags.proofs.gather.Tie as tie
-use Rattle.tags.proofs.gather.Reads as reads
-use Rattle.tags.proofs.gather.Lts as lts
-use Rattle.format.proofs.places.Section.index_record.Reads as index-record-reads
-use Rattle.format.proofs.records.IndexRecord.at.Reads as at-reads
-use Rattle.tags.proofs.note.Reads as note-reads
 
 abbrev Inv-loop : tie.InvT-loop
 Inv-loop s section table₀ i₀ table i = (i ≤ section .nindex) × (table ≡ gatheredFrom s section (section .nindex - i) i)

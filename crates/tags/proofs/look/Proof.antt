@@ -3,9 +3,6 @@ use Rattle.tags.proofs.TableLaws as laws
 use borrow.Author.Needs.{needs}
 use Rattle.tags.proofs.look.Statement.{statement}
 use Rattle.tags.proofs.look.Tie as tie
-use Rattle.tags.proofs.look.Reads as reads
-use Rattle.tags.proofs.look.Lts as lts
-use Rattle.tags.proofs.slot.Reads as slot-reads
 
 slot-requires : tie.Need-slot-requires
 slot-requires c κs = search needs

@@ -7,11 +7,6 @@ use Rattle.tags.proofs.TestLaws.{by-case}
 use borrow.Author.Needs.{needs}
 use Rattle.tags.proofs.number.Statement.{statement}
 use Rattle.tags.proofs.number.Tie as tie
-use Rattle.tags.proofs.number.Reads as reads
-use Rattle.tags.proofs.number.Lts as lts
-use Rattle.be.proofs.be32.Reads as be32-reads
-use Rattle.format.proofs.places.StoreOffset.in_file.Reads as in-file-reads
-use Rattle.tags.proofs.look.Reads as look-reads
 
 look-requires : tie.Need-look-requires
 look-requires c κs = search needs
