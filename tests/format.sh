@@ -64,6 +64,8 @@ bytes "$work/sky.txt" > "$work/sky.rpm"
 awk '{ at = 16 * n++; if (n > 11) at -= 8; if (at != substr($0, index($0, "#") + 2) + 0) exit 1 }' "$work/sky.txt" ||
     fail "$page: an offset of the package by hand"
 [ "$("$doses" < "$work/sky.rpm")" = $'edition 2\n27 1250\ntotal 1250' ] || fail "$page: the package by hand"
+stated=$(head -c 164 "$work/sky.rpm" | tail -c 16 | od -An -v -tx1 | tr -d ' ')
+[ "$stated" = "$(tail -c +169 "$work/sky.rpm" | md5sum | cut -c 1-32)" ] || fail "$page: the digest of the package by hand"
 {
     head -c 144 "$work/sky.rpm"; printf '\0\0\2\xae'
     head -c 180 "$work/sky.rpm" | tail -c +149; printf '\0\0\0\x4e'

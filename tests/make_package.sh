@@ -66,7 +66,8 @@ stops() {
         echo "make_package: $* is taken" >&2
         exit 1
     fi
-    if ! grep -qF -e "$words" "$out/message" || grep -q Traceback "$out/message" || [ -s "$out/said" ] || [ -e "$out/none.rpm" ]; then
+    if ! grep -qF -e "$words" "$out/message" || grep -q Traceback "$out/message" ||
+        [ -s "$out/said" ] || [ -e "$out/none.rpm" ]; then
         printf 'make_package: %s:\n' "$*" >&2
         cat "$out/message" >&2
         exit 1
