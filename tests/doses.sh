@@ -37,10 +37,43 @@ lines=('edition 2')
 for _ in $(seq 585); do lines+=('27 1250'); done
 gives "$data/book_limit" "${lines[@]}" 'total 731250'
 
-# input beyond the limit, however long
-if [ "$(head -c 200000 /dev/zero | "$doses")" != 'refused 2 at 0' ]; then
-    echo 'tests: doses: a long input' >&2
-    exit 1
+# says WHAT OUTPUT LINE..: the whole output of a run
+says() {
+    local what=$1 said=$2
+    shift 2
+    cases=$((cases + 1))
+    if [ "$said" != "$(printf '%s\n' "$@"; echo .)" ]; then
+        echo "tests: doses: $what: not what is expected" >&2
+        exit 1
+    fi
+}
+
+right=tests/data/house-one-region.rpm
+says 'input beyond the limit, however long' "$(head -c 200000 /dev/zero | "$doses"; echo .)" 'refused 2 at 0'
+says 'input in two pieces' "$({ head -c 50 "$right"; sleep 0.2; tail -c +51 "$right"; } | "$doses"; echo .)" \
+    'edition 2' '27 1250' 'total 1250'
+says 'no input' "$("$doses" < /dev/null; echo .)" 'refused 3 at 0'
+
+# input that can't be read is no package
+unread='cannot read standard input'
+says 'a directory' "$("$doses" < /; echo .)" "$unread"
+says 'a closed input' "$("$doses" <&-; echo .)" "$unread"
+says 'an input for writing' "$("$doses" 0> /dev/null; echo .)" "$unread"
+if command -v python3 > /dev/null; then
+    # the other end of a terminal: bytes, and then an error
+    broken='import os, pty, subprocess, sys, tty
+ours, theirs = pty.openpty()
+tty.setraw(theirs)
+os.write(theirs, open(sys.argv[1], "rb").read(200))
+os.close(theirs)
+subprocess.run(sys.argv[2:], stdin=ours)'
+    says 'an input that breaks off' "$(python3 -c "$broken" "$right" "$doses"; echo .)" "$unread"
 fi
 
-echo "tests: doses: $((cases + 1)) cases right"
+# arguments
+usage='usage: doses < PACKAGE'
+says 'a file as argument' "$("$doses" "$right" < "$right"; echo .)" "$usage"
+says 'an empty argument' "$("$doses" '' < "$right"; echo .)" "$usage"
+says 'two arguments' "$("$doses" --edition 1 < /; echo .)" "$usage"
+
+echo "tests: doses: $cases cases right"

@@ -232,6 +232,12 @@ awk -F '[{}, "]+' '
 [ "$(wc -l < "$work/lines")" = 80 ] || fail 'examples/tags.h: not 80 lines'
 diff "$work/printed" "$work/lines" || fail 'examples/tags.h: not the printed tables'
 
+# README.md has what the program says of its example
+runs 0 tests/data/house-one-region.rpm
+while IFS= read -r line; do
+    grep -qxF "    $line" README.md || fail "README.md: no '$line'"
+done < "$work/out"
+
 # the examples of docs/REFUSALS.md
 if [ -n "$python" ]; then
     sed -n '/^```console$/,/^```$/p' docs/REFUSALS.md | sed '/^```/d' > "$work/examples"

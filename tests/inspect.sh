@@ -91,6 +91,16 @@ same "requires NAME, of 100,000 bytes, refused" tests/inspect/refused-10.out
 "$inspect" "$long" < tests/data/rb-one.rpm > "$work/out"
 same "a command of 100,000 bytes" tests/inspect/usage.out
 
+# input that can't be read is no package
+for arguments in 'index 0' 'find 1 1000 6' 'element 1 1000 6 0' 'requires x'; do
+    "$inspect" $arguments < / > "$work/out"
+    same "$arguments, of a directory" tests/inspect/unread.out
+    "$inspect" $arguments <&- > "$work/out"
+    same "$arguments, of a closed input" tests/inspect/unread.out
+done
+"$inspect" index < / > "$work/out"
+same "index, of a directory" tests/inspect/usage.out
+
 # what rpm reads from the packages
 while read -r file which tag ty element hex; do
     case $element in

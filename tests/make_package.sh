@@ -44,4 +44,74 @@ make no_weight.rpm "0 at 0: " "14 at 20002: " --book 00 --weight none
 make system.rpm "18 at 1021: " "18 at 1021: " --book 00 --entry 1021:string:hurd
 make flags.rpm "14 at 1126: " "14 at 1126: " --book 00 --without 1126 --entry 1021:string:hurd
 make kind.rpm "20 at 0: " "20 at 0: " --book 96 --weight 0
+make dose.rpm "0 at 2: 27 1250 999 5000000" "0 at 2: 27 1250 999 5000000" --dose 27:1250 --dose 999:5000000
+make page.rpm "0 at 1: 27 1250" "0 at 1: 27 1250" --book "02 0007" --dose 27:1250
+cmp "$out/page.rpm" "$out/example.rpm"
+make dose_first.rpm "20 at 7: " "0 at 2: 1 100 27 1250" --dose 1:100 --book "98 001B 000004E2 0005"
+make largest.rpm "0 at 0: " "23 at 20002: " --book 00 --weight 4294967295 --entry 4294967295:int16:65535 \
+    --entry 30000:int8:255 --entry 30001:char:0,255 --entry 30002:int32:0xFFFFFFFF
+python3 tools/make_package.py --book "86 FFFF FFFFFFFF" --book "86 FFFF FFFFFFFF" --weight 0 "$out/sum.rpm" > "$out/said"
+reads sum.rpm 2 "22 at 0: "
+if grep -q 'accept\|refuse' "$out/said"; then
+    echo "make_package: says how a package is read" >&2
+    exit 1
+fi
+
+# stops WORDS OPTION...: a message with the words, no traceback, no file
+stops() {
+    words=$1
+    shift
+    rm -f "$out/none.rpm"
+    if python3 tools/make_package.py "$@" "$out/none.rpm" > "$out/said" 2> "$out/message"; then
+        echo "make_package: $* is taken" >&2
+        exit 1
+    fi
+    if ! grep -qF -e "$words" "$out/message" || grep -q Traceback "$out/message" ||
+        [ -s "$out/said" ] || [ -e "$out/none.rpm" ]; then
+        printf 'make_package: %s:\n' "$*" >&2
+        cat "$out/message" >&2
+        exit 1
+    fi
+}
+
+stops "no book" --name book
+stops "two whole numbers" --dose 27
+stops "two whole numbers" --dose 27:1,250
+stops "two whole numbers" --dose 27:1.25
+stops "two whole numbers" --dose 27:-5
+stops "two whole numbers" --dose 27:1250:5
+stops "oxide 0 is not" --dose 0:5
+stops "oxide 1000 is not" --dose 1000:5
+stops "0 milligrams are not" --dose 27:0
+stops "5000001 milligrams are not" --dose 27:5000001
+stops "--book" --book 1G
+stops "give --weight" --book 96
+stops "give --weight" --book "86 00"
+stops "give --weight" --book "86 FFFF FFFFFFFF" --book "86 FFFF FFFFFFFF"
+stops "4294967296 does not fit 32 bits" --book 00 --weight 4294967296
+stops "-1 does not fit 32 bits" --book 00 --weight=-1
+stops "65536 does not fit 16 bits" --book 00 --entry 30000:int16:1,65536
+stops "256 does not fit 8 bits" --book 00 --entry 30000:int8:256
+stops "-1 does not fit 8 bits" --book 00 --entry 30000:char:-1
+stops "4294967296 does not fit 32 bits" --book 00 --entry 30000:int32:4294967296
+stops "4294967296 does not fit 32 bits" --book 00 --entry 4294967296:bin:00
+stops "4294967296 does not fit 32 bits" --book 00 --signature-entry 4294967296:bin:00
+stops "int64 is none of the types" --book 00 --entry 30000:int64:1
+stops "--entry" --book 00 --entry 30000
+stops "--entry" --book 00 --entry 30000:int32:
+stops "--without" --book 00 --without name
+
+# unwritten MESSAGE FILE: a file that can't be written
+unwritten() {
+    if python3 tools/make_package.py --book 00 "$2" > "$out/said" 2> "$out/message"; then
+        echo "make_package: $2 is written" >&2
+        exit 1
+    fi
+    [ "$(cat "$out/message")" = "make_package: $2: $1" ] || { cat "$out/message" >&2; exit 1; }
+}
+
+unwritten "Is a directory" "$out"
+unwritten "No such file or directory" "$out/no/where"
+unwritten "Not a directory" "$out/example.rpm/file"
+unwritten "No space left on device" /dev/full
 echo "make_package: all right"

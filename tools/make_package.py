@@ -1,14 +1,16 @@
 #!/usr/bin/env python3
-"""Makes a package with a recipe book, one that the station's reading accepts.
+"""Makes a package with a recipe book. docs/FORMAT.md says what a station accepts.
 
-The package has the right size (signature tag 1000) and MD5 digest (1004), regions
-and header digests as rpm writes them, and an empty cpio archive compressed with
-gzip as payload; its files are ghosts, which have no place in the archive. rpm
+It does not read what it makes: `target/bin/doses < FILE` does. Unless options change
+them, the package has the right size (signature tag 1000) and MD5 digest (1004),
+regions and header digests as rpm writes them, and an empty cpio archive compressed
+with gzip as payload; its files are ghosts, which have no place in the archive. rpm
 4.18.0 reads it: `rpm -qp --qf '%{name}\\n' FILE`, `rpm -K --nosignature FILE`.
 """
 import argparse
 import gzip
 import hashlib
+import os
 import pathlib
 import re
 import sys
@@ -16,10 +18,12 @@ import sys
 from rpmfile import BIN, CHAR, I18N, INT16, INT32, INT8, STRING, STRINGS, cpio, in_region, lead, package
 
 EXAMPLES = """examples:
+  %(prog)s --dose 27:1250 book.rpm
+      1250 mg of oxide 27; the batch weight is 1250
   %(prog)s --book "02 0007 86 001B 000004E2" book.rpm
-      page 7, then 1250 mg of oxide 27; the batch weight is 1250
-  %(prog)s --book "86 0001 00000064" --book "86 0002 000000C8" two.rpm
-      two doses, 300 mg
+      page 7, then the same dose
+  %(prog)s --book "02 0007" --dose 1:100 --dose 2:200 two.rpm
+      page 7, then two doses, 300 mg
   %(prog)s --book 00 --name blank --file /srv/blank --require "glass >= 1.2" blank.rpm
   %(prog)s --book 00 --weight 5 wrong.rpm
       refused 23 at 20002
@@ -31,23 +35,47 @@ TYPES = {
     'char': CHAR, 'int8': INT8, 'int16': INT16, 'int32': INT32,
     'string': STRING, 'bin': BIN, 'strings': STRINGS, 'i18n': I18N,
 }
+# How many bits a number of a type has.
+BITS = {CHAR: 8, INT8: 8, INT16: 16, INT32: 32}
 # Weighed kinds; oxide and milligrams are the first six bytes of their bodies.
-WEIGHED = (0x86, 0x98)
+DOSE = 0x86
+WEIGHED = (DOSE, 0x98)
+BOOK, BATCH_WEIGHT = 20001, 20002
 GHOST = 64
 LESS, GREATER, EQUAL, RPMLIB = 2, 4, 8, 1 << 24
+
+
+def number(text, bits=32):
+    found = int(text, 0)
+    if not 0 <= found < 1 << bits:
+        raise argparse.ArgumentTypeError(f'{text} does not fit {bits} bits')
+    return found
 
 
 def book(text):
     return bytes.fromhex(text)
 
 
+def dose(text):
+    """OXIDE:MILLIGRAMS as a record."""
+    parts = re.fullmatch(r'([0-9]+):([0-9]+)', text)
+    if not parts:
+        raise argparse.ArgumentTypeError(f'{text} is not OXIDE:MILLIGRAMS, two whole numbers')
+    oxide, milligrams = (int(part) for part in parts.groups())
+    if not 1 <= oxide <= 999:
+        raise argparse.ArgumentTypeError(f'oxide {oxide} is not 1 to 999')
+    if not 1 <= milligrams <= 5000000:
+        raise argparse.ArgumentTypeError(f'{milligrams} milligrams are not 1 to 5000000')
+    return bytes([DOSE]) + oxide.to_bytes(2, 'big') + milligrams.to_bytes(4, 'big')
+
+
 def weight(text):
-    if text == 'none':
-        return None
-    milligrams = int(text, 0)
-    if not 0 <= milligrams < 1 << 32:
-        raise ValueError
-    return milligrams
+    return None if text == 'none' else number(text)
+
+
+def text_bytes(text):
+    """The bytes of an argument as they were given."""
+    return os.fsencode(text)
 
 
 def entry(text):
@@ -57,14 +85,14 @@ def entry(text):
     if ty == BIN:
         value = bytes.fromhex(value)
     elif ty in (STRING, I18N):
-        value = value.encode()
+        value = text_bytes(value)
     elif ty == STRINGS:
-        value = [word.encode() for word in value.split(',')]
+        value = [text_bytes(word) for word in value.split(',')]
     elif ty:
-        value = [int(word, 0) for word in value.split(',')]
+        value = [number(word, BITS[ty]) for word in value.split(',')]
     else:
-        raise ValueError
-    return int(tag), ty, value
+        raise argparse.ArgumentTypeError(f'{name} is none of the types ' + ', '.join(TYPES))
+    return number(tag), ty, value
 
 
 def path(text):
@@ -80,15 +108,18 @@ def require(text):
         raise ValueError
     name, operator, version = parts.groups(default='')
     flags = sum(flag for sign, flag in (('<', LESS), ('>', GREATER), ('=', EQUAL)) if sign in operator)
-    return name.encode(), flags, version.encode()
+    return text_bytes(name), flags, text_bytes(version)
 
 
 def arguments():
     parser = argparse.ArgumentParser(
         description=__doc__, epilog=EXAMPLES, formatter_class=argparse.RawDescriptionHelpFormatter)
     parser.add_argument('output', metavar='FILE', type=pathlib.Path, help='the package to write')
-    parser.add_argument('--book', metavar='HEX', type=book, action='append', required=True,
-                        help='the book\'s bytes, spaces allowed; several are put in a row')
+    parser.add_argument('--book', metavar='HEX', type=book, action='append',
+                        help='bytes of the book, spaces allowed; may be repeated')
+    parser.add_argument('--dose', metavar='OXIDE:MILLIGRAMS', type=dose, action='append', dest='book',
+                        help='a record of the book that is weighed; may be repeated. What --book and --dose give is put '
+                             'in a row, in their order')
     parser.add_argument('--weight', metavar='MILLIGRAMS', type=weight, default=False,
                         help='the batch weight (20002), or "none" to leave it out (default: the sum of the doses)')
     parser.add_argument('--name', default='book', help='the package\'s name (default: %(default)s)')
@@ -105,7 +136,10 @@ def arguments():
                         help='the same in the signature')
     parser.add_argument('--without', metavar='TAG', type=int, action='append', default=[],
                         help='a header tag to leave out')
-    return parser.parse_args()
+    options = parser.parse_args()
+    if options.book is None:
+        parser.error('no book: give --book or --dose')
+    return options
 
 
 def doses(bits):
@@ -122,7 +156,7 @@ def doses(bits):
 
 
 def header(options, payload):
-    """The header's entries by tag; document 01's required tags and what rpm asks for."""
+    """The header's entries by tag: those that are required, and what rpm asks for."""
     files = sorted(options.file or [f'/usr/share/books/{options.name}'])
     split = [file.rpartition('/') for file in files]
     folders = sorted({folder + '/' for folder, _, _ in split})
@@ -130,7 +164,7 @@ def header(options, payload):
         (b'rpmlib(CompressedFileNames)', RPMLIB | LESS | EQUAL, b'3.0.4-1'),
         (b'rpmlib(PayloadFilesHavePrefix)', RPMLIB | LESS | EQUAL, b'4.0-1'),
     ])
-    name, version, release = (text.encode() for text in (options.name, options.version, options.release))
+    name, version, release = (text_bytes(text) for text in (options.name, options.version, options.release))
     n = len(files)
     entries = [
         (100, STRINGS, [b'C']),
@@ -146,25 +180,30 @@ def header(options, payload):
         (1050, STRINGS, [version for _, _, version in requires]),
         (1095, INT32, [1] * n), (1096, INT32, list(range(1, n + 1))), (1097, STRINGS, [b''] * n),
         (1116, INT32, [folders.index(folder + '/') for folder, _, _ in split]),
-        (1117, STRINGS, [base.encode() for _, _, base in split]),
-        (1118, STRINGS, [folder.encode() for folder in folders]),
+        (1117, STRINGS, [text_bytes(base) for _, _, base in split]),
+        (1118, STRINGS, [text_bytes(folder) for folder in folders]),
         (1124, STRING, b'cpio'), (1125, STRING, b'gzip'), (1126, STRING, b'9'),
         (5092, STRINGS, [hashlib.sha256(payload).hexdigest().encode()]), (5093, INT32, [8]),
-        (20001, BIN, options.book),
+        (BOOK, BIN, options.book),
     ]
     if options.weight is not None:
-        entries.append((20002, INT32, [options.weight]))
+        entries.append((BATCH_WEIGHT, INT32, [options.weight]))
     return {entry[0]: entry for entry in entries}
 
 
-def main():
-    options = arguments()
-    options.book = b''.join(options.book)
-    stated = doses(options.book)
-    if options.weight is False:
-        if stated is None:
-            sys.exit('make_package: the book has an unknown weighed kind, or ends in a record: give --weight')
-        options.weight = sum(milligrams for _, milligrams in stated)
+def usual_weight(bits):
+    """The sum of the milligrams that a book states."""
+    stated = doses(bits)
+    if stated is None:
+        sys.exit('make_package: the book has an unknown weighed kind, or ends in a record: give --weight')
+    total = sum(milligrams for _, milligrams in stated)
+    if total >= 1 << 32:
+        sys.exit(f'make_package: the doses sum to {total}, which does not fit 32 bits: give --weight')
+    return total
+
+
+def make(options):
+    """The package's bytes."""
     archive = cpio()
     payload = gzip.compress(archive, 9, mtime=0)
     entries = header(options, payload)
@@ -180,13 +219,25 @@ def main():
     ]
     entries = {entry[0]: entry for entry in entries + options.signature_entry}
     signature = in_region(62, [entries[tag] for tag in sorted(entries)])
-    title = f'{options.name}-{options.version}-{options.release}'.encode()[:65]
-    bits = package(signature, head, payload, front=lead(title))
-    options.output.write_bytes(bits)
-    if stated is None:
-        print(f'{options.output}: {len(bits)} bytes, a book that is refused')
-    else:
-        print(f'{options.output}: {len(bits)} bytes, {len(stated)} dose(s), batch weight {options.weight}')
+    title = text_bytes(f'{options.name}-{options.version}-{options.release}')[:65]
+    return package(signature, head, payload, front=lead(title))
+
+
+def main():
+    options = arguments()
+    options.book = b''.join(options.book)
+    if options.weight is False:
+        options.weight = usual_weight(options.book)
+    bits = make(options)
+    file = text_bytes(options.output).decode(errors='replace')
+    try:
+        options.output.write_bytes(bits)
+    except OSError as error:
+        sys.exit(f'make_package: {file}: {error.strerror}')
+    try:
+        print(f'{file}: {len(bits)} bytes written, not read; target/bin/doses < {file} reads it', flush=True)
+    except OSError as error:
+        sys.exit(f'make_package: standard output: {error.strerror}')
 
 
 main()

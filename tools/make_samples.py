@@ -1,5 +1,5 @@
 #!/usr/bin/env python3
-"""Writes the packages of crates/samples/data: the bench samples and slips of document 01. Run at the project's root."""
+"""Writes the packages of crates/samples/data: the bench samples and known slips. Run at the project's root."""
 import hashlib
 import pathlib
 import struct

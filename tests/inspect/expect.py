@@ -1,5 +1,5 @@
 #!/usr/bin/env python3
-"""Writes the .out files for the cases beside this script, all but usage.out, from the papers alone.
+"""Writes the .out files for the cases beside this script, all but usage.out and unread.out, from the papers alone.
 
 It shares no code with the program; the tests need only the files.
 """

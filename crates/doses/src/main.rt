@@ -1,10 +1,11 @@
 // The doses of a package: reads one package from standard input at edition 2, and writes its doses and their sum, or the
-// refusal.
+// refusal. It takes no arguments.
+mod input;
+
 ghost use Prim.Native.Nat.{_≤_};
 ghost use lib.ListN.{length};
 use format::Answer;
 use format::FileOffset;
-use libc::STDIN_FILENO;
 use libc::STDOUT_FILENO;
 
 // One byte more than a package may have, so that a longer input is refused.
@@ -74,8 +75,22 @@ fn put_package(pkg: &[u8]) {
     }
 }
 
-fn main() {
+// Reads a package from standard input, and writes what it holds.
+fn put_input() {
     let mut room = [0u8; ROOM];
-    let n = io::read_full(STDIN_FILENO, &mut room);
+    let got = input::read(&mut room);
+    if got.failed {
+        io::write_all(STDOUT_FILENO, b"cannot read standard input\n");
+        return;
+    }
+    let n = got.count;
     put_package(&room[..n]);
+}
+
+fn main() {
+    if 1 < os::arg_count() {
+        io::write_all(STDOUT_FILENO, b"usage: doses < PACKAGE\n");
+        return;
+    }
+    put_input();
 }

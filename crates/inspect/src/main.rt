@@ -1,10 +1,10 @@
 // Shows what a package holds. It reads the package from standard input; its arguments say what to show: an index, the
 // data of an entry or of an element, or the version required for a name.
+mod input;
 mod request;
 mod show;
 
 use format::FileOffset;
-use libc::STDIN_FILENO;
 use request::Request;
 
 // One byte more than a package may have, so that a longer input is refused.
@@ -34,6 +34,11 @@ fn main() {
         return;
     }
     let mut room = [0u8; ROOM];
-    let n = io::read_full(STDIN_FILENO, &mut room);
+    let got = input::read(&mut room);
+    if got.failed {
+        show::put_unread();
+        return;
+    }
+    let n = got.count;
     answer(asked, &room[..n]);
 }

@@ -110,6 +110,11 @@ pub(crate) fn put_required(pkg: &[u8]) {
     put_hex(required::required_version(pkg, &name[..n]));
 }
 
+// Standard input that could not be read.
+pub(crate) fn put_unread() {
+    put(b"cannot read standard input\n");
+}
+
 pub(crate) fn put_usage() {
     put(b"usage: inspect index STRUCTURE\n");
     put(b"       inspect find STRUCTURE TAG TYPE\n");

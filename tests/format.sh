@@ -1,0 +1,91 @@
+#!/bin/bash
+# Tests docs/FORMAT.md: its catalogue is the program's and the printed tables', and its packages are read as it says. Run
+# from the repository's root, after `rt check` built target/bin/doses and target/bin/inspect.
+set -euo pipefail
+
+page=docs/FORMAT.md
+doses=target/bin/doses
+for program in "$doses" target/bin/inspect; do
+    [ -x "$program" ] || { echo "tests: no $program (rt check makes it)" >&2; exit 1; }
+done
+work=$(mktemp -d)
+trap 'rm -r "$work"' EXIT
+
+# fail WHAT: ends the tests
+fail() {
+    echo "tests: format: $1" >&2
+    exit 1
+}
+
+# the page's catalogue: PART TAG TYPE COUNT STATUS NAME, words joined by _
+sed -n '/^<!-- catalogue -->$/,/^<!-- end -->$/p' "$page" | sed '1,3d;$d' | tr ' ' _ |
+    awk -F '_?[|]_?' '{ print $2, $3, $4, $5, $6, $7 }' > "$work/page"
+[ "$(wc -l < "$work/page")" = 82 ] || fail "$page: not 82 lines"
+
+# the program's, in its order, without names
+awk -F '[][, ]+' '
+    BEGIN {
+        split("char int8 int16 int32 - string bin string_array translated_string", types, " ")
+        split("optional required required_in_edition_2", statuses, " ")
+    }
+    /^    \[[0-9]+, [0-9]+, [0-9]+, [0-9]+\],$/ {
+        print ++lines <= 11 ? "signature" : "header", $2, $3 "_" types[$3], $4 == 0 ? "any" : $4, statuses[$5 + 1]
+    }' crates/catalogue/src/lib.rt > "$work/program"
+cut -d ' ' -f 1-5 "$work/page" | diff - "$work/program" || fail "$page: not the catalogue of crates/catalogue"
+
+# the printed tables, but for the exceptions that examples/tags.h has too, and the house tags
+awk -F ' *[|] *' '
+    BEGIN {
+        number["CHAR"] = "1_char"; number["INT8"] = "2_int8"; number["INT16"] = "3_int16"; number["INT32"] = "4_int32"
+        number["STRING"] = "6_string"; number["BIN"] = "7_bin"; number["STRING_ARRAY"] = "8_string_array"
+        number["I18NSTRING"] = "9_translated_string"
+        print "header 20001 7_bin any required house_tag"
+        print "header 20002 4_int32 1 required_in_edition_2 house_tag"
+    }
+    /^Table/ { table = substr($1, 9) + 0 }
+    $2 ~ /^[0-9]+$/ {
+        count = $4 ~ /^[0-9]+$/ ? $4 : "any"
+        status = $4 == "Required" || $5 == "Required" ? "required" : "optional"
+        if (table <= 7)
+            print "signature", $2, number[$3], $2 ~ /^10(02|05|11|12)$/ ? "any" : count, $2 == 100 ? "optional" : status, $1
+        if (table == 4 || table > 7)
+            print "header", $2, number[$3], $2 ~ /^(1047|1114)$/ ? "any" : count, status, $1
+    }' tests/reference/tables.txt | sort > "$work/printed"
+sort "$work/page" | diff - "$work/printed" || fail "$page: not the printed tables"
+
+# the package by hand, and one of a book of 24 bytes
+# bytes FILE: the bytes that a listing spells
+bytes() {
+    printf '%b' "$(sed 's/#.*//' "$1" | tr -d ' \n' | sed 's/../\\x&/g')"
+}
+sed -n '/^```text$/,/^```$/p' "$page" | sed '/^```/d' > "$work/sky.txt"
+bytes "$work/sky.txt" > "$work/sky.rpm"
+[ "$(wc -c < "$work/sky.rpm")" = 840 ] || fail "$page: the package by hand has not 840 bytes"
+awk '{ at = 16 * n++; if (n > 11) at -= 8; if (at != substr($0, index($0, "#") + 2) + 0) exit 1 }' "$work/sky.txt" ||
+    fail "$page: an offset of the package by hand"
+[ "$("$doses" < "$work/sky.rpm")" = $'edition 2\n27 1250\ntotal 1250' ] || fail "$page: the package by hand"
+stated=$(head -c 164 "$work/sky.rpm" | tail -c 16 | od -An -v -tx1 | tr -d ' ')
+[ "$stated" = "$(tail -c +169 "$work/sky.rpm" | md5sum | cut -c 1-32)" ] || fail "$page: the digest of the package by hand"
+{
+    head -c 144 "$work/sky.rpm"; printf '\0\0\2\xae'
+    head -c 180 "$work/sky.rpm" | tail -c +149; printf '\0\0\0\x4e'
+    head -c 756 "$work/sky.rpm" | tail -c +185; printf '\0\0\0\x18'
+    head -c 780 "$work/sky.rpm" | tail -c +761; printf '\0\0\5\x49'
+    head -c 830 "$work/sky.rpm" | tail -c +785
+    printf '\x98\0\x1b\0\0\4\xe2\0\5\x02\0\7\x86\0\1\0\0\0\x64\x14\0\0\0\1'
+} > "$work/own.rpm"
+[ "$("$doses" < "$work/own.rpm")" = 'refused 23 at 20002' ] || fail "$page: a book of one's own, the weight wrong"
+{ head -c 780 "$work/own.rpm"; printf '\0\0\5\x46'; tail -c +785 "$work/own.rpm"; } > "$work/right.rpm"
+[ "$("$doses" < "$work/right.rpm")" = $'edition 2\n27 1250\n1 100\ntotal 1350' ] || fail "$page: a book of one's own"
+
+# the page's examples
+if command -v python3 > /dev/null; then
+    sed -n '/^```console$/,/^```$/p' "$page" | sed '/^```/d' > "$work/examples"
+    sed -n 's/^\$ //p' "$work/examples" | while read -r line; do
+        printf '$ %s\n' "$line"
+        bash -c "$line" < /dev/null || true
+    done > "$work/out"
+    diff "$work/examples" "$work/out" || fail "$page: an example is not what the programs say"
+fi
+
+echo "tests: format: all right"
