@@ -1,18 +1,21 @@
 #!/bin/sh
-# Measures the library against the reference: run from the repository's root, after
-# `rt staticlib station`. STATION_LIB names another library to measure.
+# Measures the library against the reference, and against librpm where its development files
+# are (Debian: librpm-dev): run from the repository's root, after `rt staticlib station`.
+# STATION_LIB names another library to measure; LIBRPM=no leaves librpm out.
 #
 #   tests/bench.sh           shows times, ratios and instruction counts
 #   tests/bench.sh --write   writes them to docs/PERFORMANCE.md and docs/performance.svg
 #   tests/bench.sh --check   fails where the library needs over 1.2 times the instructions
 #   tests/bench.sh --build   only builds target/bench/bench
 #
-# Needs rustc and Python 3; instructions are counted where valgrind is there.
+# Needs rustc, Python 3 and binutils; instructions are counted where valgrind is there.
 set -eu
 
 lib=${STATION_LIB:-target/staticlib/libstation.a}
 out=target/bench
-rust="rustc --edition 2021 -C opt-level=3 -D warnings"
+# Functions start at multiples of 64, in the library as well: else times hang on where the
+# linker happens to put them.
+rust="rustc --edition 2021 -C opt-level=3 -C llvm-args=--align-all-functions=6 -D warnings"
 mode=${1:---show}
 
 case $mode in
@@ -22,9 +25,17 @@ esac
 [ -f "$lib" ] || { echo "bench: no $lib (rt staticlib station makes it)" >&2; exit 1; }
 
 mkdir -p "$out"
+objcopy --set-section-alignment '.text*=64' "$lib" "$out/libstation.a"
 $rust --crate-type rlib --crate-name reference tests/reference/lib.rs -o "$out/libreference.rlib"
-$rust tests/bench/main.rs --extern "reference=$out/libreference.rlib" \
-    -C "link-arg=$lib" -o "$out/bench"
+peer=
+if [ "${LIBRPM:-}" != no ] && echo 'int main(void) { return 0; }' |
+    cc -xc - -lrpm -lrpmio -o "$out/librpm" 2> "$out/librpm.log"; then
+    peer="--cfg librpm"
+else
+    echo "bench: librpm is missing, it is not measured" >&2
+fi
+$rust --check-cfg "cfg(librpm)" $peer tests/bench/main.rs --extern "reference=$out/libreference.rlib" \
+    -C "link-arg=$out/libstation.a" -o "$out/bench"
 
 # count PART-OF-A-NAME: the cases to target/bench/counts/cases, a file per call beside it
 count() {

@@ -5,6 +5,7 @@ use std::path::Path;
 
 use reference::{reading, Record};
 
+use crate::librpm;
 use crate::packages::{accepted, free, Order, Plan, ORDERS, USUAL};
 
 extern "C" {
@@ -40,9 +41,11 @@ pub enum Call {
 pub enum Side {
     Library,
     Reference,
+    Librpm,
 }
 
-pub const SIDES: [Side; 2] = [Side::Library, Side::Reference];
+/// Those that answer alike.
+const ANSWERING: [Side; 2] = [Side::Library, Side::Reference];
 
 /// A dose buffer with room for any book's doses.
 #[derive(PartialEq)]
@@ -93,17 +96,44 @@ impl Case {
         }
     }
 
+    #[inline(never)]
+    fn librpm(&self) -> u64 {
+        u64::from(librpm::open(black_box(&self.package[..])))
+    }
+
+    /// Who is measured: librpm where it is linked, for readings, if it takes the package.
+    pub fn sides(&self) -> Vec<Side> {
+        let mut sides = ANSWERING.to_vec();
+        if self.is_reading() && librpm::open(&self.package) {
+            sides.push(Side::Librpm);
+        }
+        sides
+    }
+
+    pub fn is_reading(&self) -> bool {
+        matches!(self.call, Call::Read(_))
+    }
+
+    /// The records of signature and header; 0 where they are not sound.
+    pub fn records(&self) -> [usize; 2] {
+        match reference::sound(&self.package) {
+            Ok(opened) => [opened.signature.nindex(), opened.header.nindex()],
+            Err(_) => [0, 0],
+        }
+    }
+
     /// One call.
     pub fn run(&self, side: Side, doses: &mut Doses) -> u64 {
         match side {
             Side::Library => self.library(doses),
             Side::Reference => self.reference(doses),
+            Side::Librpm => self.librpm(),
         }
     }
 
     /// The answer; library and reference must agree on it and on the doses.
     pub fn answer(&self) -> u64 {
-        let [library, reference] = SIDES.map(|side| {
+        let [library, reference] = ANSWERING.map(|side| {
             let mut doses = Doses::new();
             (self.run(side, &mut doses), doses)
         });
@@ -134,16 +164,40 @@ pub fn readings() -> Vec<Case> {
             ));
         }
     }
+    // The least book: check 10 wants a byte.
+    let remark = Plan {
+        doses: 0,
+        remarks: 1,
+        ..USUAL
+    };
+    let remarks = Plan {
+        remarks: 4096,
+        ..remark
+    };
     let doses = Plan {
         doses: 585,
         ..USUAL
     };
     let files = Plan {
         files: 300,
-        requires: 100,
         ..USUAL
     };
-    for (plan, name) in [(doses, "585 doses"), (files, "300 files, 100 requires")] {
+    let requires = Plan {
+        requires: 100,
+        ..files
+    };
+    let no_book = Plan {
+        book: false,
+        ..files
+    };
+    for (plan, name) in [
+        (remark, "1 remark"),
+        (remarks, "4,096 remarks"),
+        (doses, "585 doses"),
+        (files, "300 files"),
+        (requires, "300 files, 100 requires"),
+        (no_book, "300 files, no book"),
+    ] {
         let package = accepted(64, Order::Rising, &plan);
         cases.push(read("reading", format!("64 records, {name}"), package));
     }

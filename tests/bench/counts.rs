@@ -1,9 +1,10 @@
 //! One call of each side on each case, to be counted by callgrind: with
-//! `--zero-before=counted_call --dump-after=counted_call` it writes a file per call.
+//! `--zero-before=counted_call --dump-after=counted_call` it writes a file per call. A line
+//! for each case: group, name, how many calls were counted: library, reference, librpm.
 
 use std::hint::black_box;
 
-use crate::cases::{Case, Doses, Side, SIDES};
+use crate::cases::{Case, Doses, Side};
 
 #[no_mangle]
 #[inline(never)]
@@ -14,11 +15,12 @@ fn counted_call(case: &Case, side: Side, doses: &mut Doses) -> u64 {
 pub fn all(cases: &[Case]) {
     let mut doses = Doses::new();
     for case in cases {
-        // Both sides run once before they are counted.
+        // Each side runs once before it is counted.
         case.answer();
-        for side in SIDES {
+        let sides = case.sides();
+        for &side in &sides {
             counted_call(case, black_box(side), &mut doses);
         }
-        println!("{}\t{}", case.group, case.name);
+        println!("{}\t{}\t{}", case.group, case.name, sides.len());
     }
 }

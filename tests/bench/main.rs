@@ -1,4 +1,4 @@
-//! Measures the C calls of libstation.a against the reference.
+//! Measures the C calls of libstation.a against the reference, and against librpm.
 //!
 //!     bench times DATA-FOLDER [PART-OF-A-NAME]
 //!     bench counts DATA-FOLDER [PART-OF-A-NAME]
@@ -10,6 +10,7 @@ mod cases;
 #[allow(dead_code)]
 mod content;
 mod counts;
+mod librpm;
 #[path = "../compare/maker.rs"]
 #[allow(dead_code)]
 mod maker;
@@ -24,6 +25,7 @@ use std::path::Path;
 use cases::Case;
 
 fn main() {
+    librpm::silence();
     let words: Vec<String> = std::env::args().skip(1).collect();
     let words: Vec<&str> = words.iter().map(String::as_str).collect();
     match words[..] {

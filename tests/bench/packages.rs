@@ -21,16 +21,22 @@ pub const ORDERS: [(Order, &str); 3] = [
 ];
 
 /// How much the entries hold.
+#[derive(Clone, Copy)]
 pub struct Plan {
     pub files: usize,
     pub requires: usize,
     pub doses: usize,
+    /// One-byte remarks, where the book has no doses.
+    pub remarks: usize,
+    pub book: bool,
 }
 
 pub const USUAL: Plan = Plan {
     files: 8,
     requires: 6,
     doses: 24,
+    remarks: 0,
+    book: true,
 };
 
 const DIRECTORIES: usize = 3;
@@ -43,20 +49,21 @@ const LEAST_RECORDS: usize = 37;
 
 /// Lines that may be absent; those that need one another stand together.
 #[rustfmt::skip]
-const OPTIONAL: [&[u32]; 23] = [
+const OPTIONAL: [&[u32]; 22] = [
     &[63], &[1006], &[1007], &[1010], &[1011], &[1020], &[1044], &[1045], &[1046], &[1064], &[1094],
-    &[1122], &[1123], &[1131], &[1132], &[62], &[1080, 1081, 1082], &[1023, 1085], &[1024, 1086],
+    &[1122], &[1123], &[1131], &[1132], &[1080, 1081, 1082], &[1023, 1085], &[1024, 1086],
     &[1025, 1087], &[1026, 1088], &[1053, 1054, 1055], &[1090, 1114, 1115],
 ];
 
-/// A tag that has no line, a type and a count. The tags rise, by more than 1.
+/// A tag that has no line and that librpm doesn't know, a type and a count. The tags rise,
+/// by more than 1.
 pub fn free(position: usize) -> (u32, u32, usize) {
     let ty = [6, 4, 8, 7, 3, 9, 1, 2][position % 8];
     let count = match ty {
         6 | 9 => 1,
         _ => 1 + position % 4,
     };
-    (5000 + 7 * position as u32, ty, count)
+    (10_000 + 7 * position as u32, ty, count)
 }
 
 fn count(plan: &Plan, line: &Line) -> usize {
@@ -101,9 +108,10 @@ fn item(tag: u32, ty: u32, count: usize) -> Item {
     }
 }
 
-/// A book of so many doses, with pages between them where it is not long, and its weight.
-fn book(doses: usize) -> (Vec<u8>, u32) {
-    let mut bytes = Vec::new();
+/// A book of doses, with pages between them where it is not long, and its weight.
+fn book(plan: &Plan) -> (Vec<u8>, u32) {
+    let doses = plan.doses;
+    let mut bytes = vec![0x30; plan.remarks];
     let mut weight = 0;
     for position in 0..doses {
         if position % 4 == 0 && doses < 400 {
@@ -131,20 +139,32 @@ fn optional(records: usize) -> Vec<u32> {
     tags
 }
 
+/// What rpm's writers put into 62 and 63, the regions: where the index starts, counted back
+/// from the index's end.
+fn region(tag: u32, records: usize) -> Item {
+    let back = (16 * records as u32).wrapping_neg();
+    bin(tag, &[tag, 7, back, 16].map(u32::to_be_bytes).concat())
+}
+
 /// An accepted package of at least 37 header records: the least, optional lines, and
-/// tags that have no line. The signature has every line.
+/// tags that have no line. The signature has every line but the
+/// header's region. A region stands as rpm's writers
+/// put it: first in the index, last in the store. Without a book the package is refused.
 pub fn accepted(records: usize, order: Order, plan: &Plan) -> Vec<u8> {
-    let (bytes, weight) = book(plan.doses);
+    let (bytes, weight) = book(plan);
     let mut content = Content::least(&bytes, weight);
+    if !plan.book {
+        content.remove(HEADER, catalogue::BOOK);
+    }
     let extra = optional(records);
     for line in &catalogue::HEADER {
         let present = content.get(HEADER, line.tag).is_some() || extra.contains(&line.tag);
-        if present && line.tag < 20_001 {
+        if present && line.tag < catalogue::BOOK {
             content.put(HEADER, item(line.tag, line.ty, count(plan, line)));
         }
     }
     for line in &catalogue::SIGNATURE {
-        if line.status != Status::Required {
+        if line.status != Status::Required && line.tag != 63 {
             content.put(SIGNATURE, item(line.tag, line.ty, count(plan, line)));
         }
     }
@@ -161,6 +181,22 @@ pub fn accepted(records: usize, order: Order, plan: &Plan) -> Vec<u8> {
         Order::Falling => header.reverse(),
         Order::Shuffled => Random::new(records as u64).shuffle(header),
     }
+    for (items, tag) in content.items.iter_mut().zip([62, 63]) {
+        if let Some(at) = items.iter().position(|item| item.tag == tag) {
+            items.remove(at);
+            items.push(region(tag, items.len() + 1));
+        }
+    }
     content.payload = vec![0x55; 64];
-    content.bytes()
+    let mut package = content.package();
+    for structure in [&mut package.signature, &mut package.header] {
+        if structure
+            .records
+            .last()
+            .is_some_and(|record| record[0] < 100)
+        {
+            structure.records.rotate_right(1);
+        }
+    }
+    package.bytes()
 }

@@ -6,7 +6,8 @@ TOP, BOTTOM = 92, 336
 # Left and right edge of each panel.
 PANELS = [(70, 420), (470, 820)]
 RECORDS = [0, 128, 256, 384, 512]
-SIDES = [('library', '#0b62c4'), ('reference', '#c2410c')]
+# Each with its colour and its place in the legend.
+SIDES = [('library', '#0b62c4', 540), ('reference', '#c2410c', 632), ('librpm', '#15803d', 743)]
 FONT = "-apple-system, 'Segoe UI', 'Noto Sans', 'DejaVu Sans', Helvetica, Arial, sans-serif"
 
 
@@ -31,7 +32,13 @@ def points(pairs):
     return ' '.join(f'{x:.1f},{y:.1f}' for x, y in pairs)
 
 
-def panel(left, right, title, cases, marks):
+def drawn(panels):
+    """The sides with times in every case: librpm may be missing."""
+    every = [case for _, cases in panels for case in cases]
+    return [side for side in SIDES if not any(isinstance(getattr(case, side[0]), str) for case in every)]
+
+
+def panel(left, right, title, cases, marks, sides):
     across = lambda records: left + (right - left) * records / RECORDS[-1]
     up = lambda nanos: BOTTOM - (BOTTOM - TOP) * nanos / 1000 / marks[-1]
     yield text((left + right) / 2, TOP - 14, title, size=14, colour='#111827')
@@ -41,7 +48,7 @@ def panel(left, right, title, cases, marks):
     for records in RECORDS:
         yield line(across(records), BOTTOM, across(records), BOTTOM + 5, '#9ca3af')
         yield text(across(records), BOTTOM + 21, str(records))
-    for side, colour in reversed(SIDES):
+    for side, colour, _ in reversed(sides):
         times = [(across(int(case.name)), getattr(case, side)) for case in cases]
         low = [(x, up(time.low)) for x, time in times]
         high = [(x, up(time.high)) for x, time in times]
@@ -55,22 +62,24 @@ def panel(left, right, title, cases, marks):
 
 def svg(panels):
     """Panels are (title, cases); a case's name is its number of records."""
-    most = max(getattr(case, side).high for _, cases in panels for case in cases for side, _ in SIDES)
+    sides = drawn(panels)
+    names = [side for side, _, _ in sides]
+    most = max(getattr(case, side).high for _, cases in panels for case in cases for side in names)
     marks = ticks(most / 1000)
     middle = (TOP + BOTTOM) / 2
     parts = [
         f'<svg xmlns="http://www.w3.org/2000/svg" viewBox="0 0 {WIDTH} {HEIGHT}" width="{WIDTH}" height="{HEIGHT}"'
         f' role="img" font-family="{FONT}">',
-        '<title>Time of one reading over the number of header records, library and reference</title>',
+        f'<title>Time of one reading over the number of header records: {", ".join(names)}</title>',
         f'<rect width="{WIDTH}" height="{HEIGHT}" rx="6" fill="#ffffff"/>',
         text(24, 34, 'Time of one reading', anchor='start', size=17, colour='#111827', more=' font-weight="600"'),
         text(22, middle, 'microseconds', more=f' transform="rotate(-90 22 {middle:.1f})"'),
     ]
-    for x, (side, colour) in zip((628, 724), SIDES):
+    for side, colour, x in sides:
         parts += [line(x, 29, x + 26, 29, colour, 2.2), f'<circle cx="{x + 13}" cy="29" r="3.2" fill="{colour}"/>']
         parts.append(text(x + 33, 33.5, side, anchor='start', colour='#111827'))
     parts.append(text(PANELS[1][1], 54, 'median; the shade is the middle half', anchor='end', size=11.5))
     for (left, right), (title, cases) in zip(PANELS, panels):
-        parts += panel(left, right, title, cases, marks)
+        parts += panel(left, right, title, cases, marks, sides)
         parts.append(text((left + right) / 2, BOTTOM + 44, 'header records'))
     return '\n'.join([*parts, '</svg>', ''])

@@ -14,19 +14,31 @@ import platform
 import re
 import subprocess
 import sys
+import textwrap
 
 import plot
 
 # The library's share of the reference that a reading may take.
 LIMIT = 1.2
 DOCS = pathlib.Path('docs')
-BEGIN = '<!-- measured: tests/bench.sh --write -->'
-END = '<!-- end of what was measured -->'
+BEGIN = '<!-- measured by tests/bench.sh --write: {} -->'
+END = '<!-- end of {} -->'
 
 # Quartiles: low, middle, high. Times are nanoseconds per call; count is instructions per call.
+# librpm is a time, and its ratio librpm / library; or both are the word why there is none.
 Time = collections.namedtuple('Time', 'low middle high')
-Case = collections.namedtuple('Case', 'group name bytes number place library reference ratio')
-Count = collections.namedtuple('Count', 'library reference')
+Case = collections.namedtuple(
+    'Case', 'group name bytes signature records number place library reference ratio librpm librpm_ratio')
+Count = collections.namedtuple('Count', 'library reference librpm check_13')
+
+# A function of the library that does check 13 and nothing else, where the compiler keeps one.
+CHECK_13 = re.compile(r'::tag_before$')
+# The header records of the table of instructions per record.
+PER_RECORD = ('64', '128', '256', '512')
+# In the first table: accepted packages of the test data with so many header records, and these.
+DATA_RECORDS = range(40, 81)
+FIRST = ['64 records, rising tags', '512 records, rising tags', '64 records, 1 remark', '64 records, 4,096 remarks',
+         '64 records, 585 doses', '64 records, 300 files', '64 records, 300 files, no book']
 
 
 def read_times(folder):
@@ -37,11 +49,35 @@ def read_times(folder):
         if len(words) == 2:
             run[words[0]] = words[1]
             continue
-        group, name, *whole = words[:5]
-        numbers = [float(word) for word in words[5:]]
-        times = [Time(*numbers[at:at + 3]) for at in (0, 3, 6)]
-        cases.append(Case(group, name, *map(int, whole), *times))
+        group, name, *whole = words[:7]
+        times = [Time(*map(float, words[at:at + 3])) for at in (7, 10, 13)]
+        librpm = words[16:]
+        if len(librpm) == 1:
+            librpm = librpm * 2
+        else:
+            librpm = [Time(*map(float, librpm[at:at + 3])) for at in (0, 3)]
+        cases.append(Case(group, name, *map(int, whole), *times, *librpm))
     return run, cases
+
+
+def cost_of_calls(text, wanted):
+    """Instructions of the calls into the functions with a wanted name, or None where there are none."""
+    names, caller, callee, inclusive, cost = {}, '', '', False, None
+    for line in text.splitlines():
+        found = re.match(r'(c?fn)=\((\d+)\)(?: (.*))?$', line)
+        if found:
+            name = names.setdefault(found[2], found[3] or '')
+            if found[1] == 'fn':
+                caller = name
+            else:
+                callee = name
+        elif line.startswith('calls='):
+            inclusive = True
+        elif inclusive:
+            inclusive = False
+            if wanted.search(callee) and not wanted.search(caller):
+                cost = (cost or 0) + int(line.split()[-1])
+    return cost
 
 
 def read_counts(folder):
@@ -49,16 +85,15 @@ def read_counts(folder):
     counts = folder / 'counts'
     if not counts.exists():
         return {}
-
-    def instructions(call):
-        text = (counts / f'call.{call}').read_text()
-        return int(re.search(r'^summary: (\d+)$', text, re.M)[1])
-
-    lines = (counts / 'cases').read_text().splitlines()
-    return {
-        tuple(line.split('\t')): Count(instructions(2 * at + 1), instructions(2 * at + 2))
-        for at, line in enumerate(lines)
-    }
+    all_counts, call = {}, 0
+    for line in (counts / 'cases').read_text().splitlines():
+        group, name, calls = line.split('\t')
+        texts = [(counts / f'call.{call + one}').read_text() for one in range(1, int(calls) + 1)]
+        call += int(calls)
+        sides = [int(re.search(r'^summary: (\d+)$', text, re.M)[1]) for text in texts]
+        librpm = sides[2] if len(sides) > 2 else None
+        all_counts[group, name] = Count(sides[0], sides[1], librpm, cost_of_calls(texts[0], CHECK_13))
+    return all_counts
 
 
 def first_line(*command):
@@ -78,19 +113,36 @@ def micros(nanos):
 
 
 def time_cell(time):
+    if isinstance(time, str):
+        return time
     return f'{micros(time.middle)} ({micros(time.low)}–{micros(time.high)})'
 
 
+def middle_cell(time):
+    return time if isinstance(time, str) else micros(time.middle)
+
+
+def ratio_cell(ratio):
+    return '' if isinstance(ratio, str) else f'{ratio.middle:.2f}'
+
+
 def ratio_cells(case):
-    pairs = case.ratio
+    rounds = case.ratio
     return [f'{case.library.middle / case.reference.middle:.2f}',
-            f'{pairs.middle:.2f} ({pairs.low:.2f}–{pairs.high:.2f})']
+            f'{rounds.middle:.2f} ({rounds.low:.2f}–{rounds.high:.2f})']
 
 
 def count_cells(count):
     if not count:
         return ['not counted'] * 3
     return [f'{count.library:,}', f'{count.reference:,}', f'{count.library / count.reference:.2f}']
+
+
+def librpm_count(case, counts):
+    count = counts.get((case.group, case.name))
+    if isinstance(case.librpm, str):
+        return case.librpm
+    return f'{count.librpm:,}' if count and count.librpm is not None else 'not counted'
 
 
 def answer_cell(case):
@@ -101,6 +153,10 @@ def answer_cell(case):
     return 'found'
 
 
+def wrapped(said):
+    return '\n'.join(textwrap.wrap(said, 110))
+
+
 def table(head, rows, left=1):
     """Text in the first columns, numbers in the others."""
     marks = ['---'] * left + ['---:'] * (len(head) - left)
@@ -108,19 +164,23 @@ def table(head, rows, left=1):
 
 
 def case_tables(what, cases, counts):
-    """Times of the cases, then instructions."""
+    """Times of the cases, then instructions; librpm only has readings."""
+    peer = any('reading' in case.group for case in cases)
     times = [
-        [case.name, answer_cell(case), f'{case.bytes:,}', time_cell(case.library),
-         time_cell(case.reference), *ratio_cells(case)]
+        [case.name, answer_cell(case), f'{case.bytes:,}', time_cell(case.library), time_cell(case.reference),
+         *ratio_cells(case), *([time_cell(case.librpm), ratio_cell(case.librpm_ratio)] if peer else [])]
         for case in cases
     ]
     instructions = [
-        [case.name, *count_cells(counts.get((case.group, case.name)))] for case in cases
+        [case.name, *count_cells(counts.get((case.group, case.name))),
+         *([librpm_count(case, counts)] if peer else [])]
+        for case in cases
     ]
-    head = [what, 'Answer', 'Bytes', 'Library, µs', 'Reference, µs', 'Ratio of medians', 'Ratio by pairs']
-    yield table(head, times, left=2)
+    head = [what, 'Answer', 'Bytes', 'Library, µs', 'Reference, µs', 'Ratio of medians', 'Ratio by rounds']
+    yield table(head + ['librpm, µs', 'librpm / library'] * peer, times, left=2)
     if counts:
-        yield table([what, 'Instructions, library', 'Reference', 'Ratio'], instructions)
+        head = [what, 'Instructions, library', 'Reference', 'Ratio']
+        yield table(head + ['librpm'] * peer, instructions)
 
 
 # ---- Sections ----
@@ -135,6 +195,7 @@ def machine(run):
         ['Processors', f'{processors}; {pinned}'],
         ['System', f'{platform.system()} {platform.release().split("-")[0]}, {platform.machine()}'],
         ['Reference and bench', f'{first_line("rustc", "--version").split(" (")[0]}, opt-level 3'],
+        ['librpm', run['librpm']],
         ['Instructions counted by', first_line('valgrind', '--version') or 'nothing: no valgrind there'],
         ['Day', datetime.datetime.now(datetime.timezone.utc).date().isoformat()],
         ['Batches', f'{run["batches"]} for each side of each case, each of {run["milliseconds"]} ms or more'],
@@ -142,69 +203,138 @@ def machine(run):
     return table(['', ''], rows, left=2)
 
 
-def in_short(cases, counts):
-    """The chief cases, and how many are over the limit."""
-    by_name = {(case.group, case.name): case for case in cases}
-    rows = []
-    for what, group, name in [
-        ('A reading', 'reading', 'rising tags'),
-        ('A reading', 'reading', 'shuffled tags'),
-        ('A look-up', 'look-up', 'middle tag'),
-        ('An element', 'element', 'last string of 8'),
-    ]:
-        for records in ('64', '512'):
-            key = (group, f'{records} records, {name}')
-            case = by_name[key]
-            rows.append([what, key[1], micros(case.library.middle), f'{case.ratio.middle:.2f}',
-                         count_cells(counts.get(key))[2]])
-    head = ['Call', 'Case', 'µs', 'Times the reference', 'In instructions']
+def first(folder):
+    """The first table: library, reference and librpm."""
+    run, cases = read_times(folder)
+    by_name = {case.name: case for case in cases if case.group == 'reading'}
+    data = [case for case in cases
+            if case.group == 'data reading' and not case.number and case.records in DATA_RECORDS]
+    rows = [
+        [name, answer_cell(case), micros(case.library.middle), micros(case.reference.middle),
+         middle_cell(case.librpm), ratio_cell(case.librpm_ratio)]
+        for name, case in [(f'{case.name}, {case.records} records', case) for case in data]
+        + [(name, by_name[name]) for name in FIRST]
+    ]
+    yield table(['One reading', 'Answer', 'Library, µs', 'Reference, µs', 'librpm, µs', 'librpm / library'], rows, left=2)
     slower = [case for case in cases if case.ratio.middle > LIMIT]
     worst = max(cases, key=lambda case: case.ratio.middle)
+    quicker = [case for case in cases if not isinstance(case.librpm, str) and case.librpm_ratio.middle > 1]
+    peers = [case for case in cases if not isinstance(case.librpm, str)]
     said = (f'Of {len(cases)} cases, {len(slower)} take over {LIMIT} times the reference\'s time; the highest ratio'
-            f' by pairs is {worst.ratio.middle:.2f} ({worst.group}: {worst.name}).')
-    return table(head, rows, left=2) + '\n\n' + said
+            f' by rounds is {worst.ratio.middle:.2f} ({worst.group}: {worst.name}).')
+    if peers:
+        said += f' The library is quicker than librpm in {len(quicker)} of the {len(peers)} readings that librpm takes part in.'
+    yield wrapped(said)
 
 
-def growth(cases, counts, order):
+def pairs(case):
+    """How many pairs of records a structure's tags make, in both structures."""
+    return sum(records * (records - 1) // 2 for records in (case.signature, case.records))
+
+
+def check_13(cases, counts):
+    """How check 13's instructions are known, and a function that tells them for a case."""
+    count = lambda case: counts[case.group, case.name]
+    if all(count(case).check_13 is not None for case in cases):
+        return ('Check 13 is what callgrind counts in the library\'s function for it, and in what that calls.',
+                lambda case: count(case).check_13)
+    # Equal steps of records: what is left in the second difference grows with the pairs.
+    last = sorted(cases, key=lambda case: case.records)[-3:]
+    second = count(last[2]).library - 2 * count(last[1]).library + count(last[0]).library
+    each = second / (pairs(last[2]) - 2 * pairs(last[1]) + pairs(last[0]))
+    each = max(each, 0)
+    known = ('The compiler leaves no function of its own for check 13, so its part is worked out. It alone looks at'
+             f' pairs of records: from {last[0].records} over {last[1].records} to {last[2].records} records the count'
+             f' bends by {each:.2f} instructions a pair, which are taken out for every pair of a structure\'s records.'
+             ' What check 13 does once for a record stays in the rest.')
+    return known, lambda case: round(each * pairs(case))
+
+
+def instructions(cases, counts):
+    """Instructions of a reading beside what is asked, and for each record."""
+    if not counts:
+        yield 'Not counted: no valgrind there.'
+        return
+    rising = [case for case in cases if case.group == 'growth rising']
+    known, part = check_13(rising, counts)
+    shown = [case for case in rising if case.name in PER_RECORD]
+    rest = {case.name: counts[case.group, case.name].library - part(case) for case in shown}
+    of = lambda name: counts['reading', f'64 records, {name}'].library
+    asked = [
+        ('64 records, rising tags, less check 13', rest['64'], 21_000),
+        ('512 records, rising tags, less check 13', rest['512'], 75_000),
+        ('4,096 remarks, more than 1 remark', of('4,096 remarks') - of('1 remark'), 30_000),
+        ('585 doses, more than 24', of('585 doses') - of('rising tags'), 45_000),
+        ('300 files, in all', of('300 files'), 120_000),
+    ]
+    yield table(['One reading', 'Instructions', 'Asked: at most'],
+                [[what, f'{count:,}', f'{most:,}'] for what, count, most in asked])
+    rows, before = [], None
+    for case in shown:
+        step = (rest[case.name] - rest[before.name]) / (case.records - before.records) if before else None
+        count = counts[case.group, case.name]
+        rows.append([case.name, f'{count.library:,}', f'{part(case):,}', f'{rest[case.name]:,}',
+                     f'{rest[case.name] / case.records:.0f}', f'{step:.0f}' if before else '',
+                     librpm_count(case, counts)])
+        before = case
+    yield wrapped('For each record, rising tags. ' + known)
+    yield table(['Records', 'Instructions', 'Check 13', 'The rest', 'The rest, for each record',
+                 'For each record more than above', 'librpm'], rows, left=0)
+
+
+def growth_said(cases, order):
+    first_case, last = (next(case for case in cases if case.name == name) for name in ('64', '512'))
+    times = [getattr(last, side).middle / getattr(first_case, side).middle for side in ('library', 'reference')]
+    return (f'{order.capitalize()} tags: from 64 to 512 records, 8 times as many, the library takes {times[0]:.1f}'
+            f' times as long, the reference {times[1]:.1f} times.')
+
+
+def growth(cases, counts):
     rows = [
         [case.name, f'{case.bytes:,}', time_cell(case.library), time_cell(case.reference),
-         f'{case.ratio.middle:.2f}', *count_cells(counts.get((case.group, case.name)))]
+         f'{case.ratio.middle:.2f}', time_cell(case.librpm), ratio_cell(case.librpm_ratio),
+         *count_cells(counts.get((case.group, case.name))), librpm_count(case, counts)]
         for case in cases
     ]
-    head = ['Records', 'Bytes', 'Library, µs', 'Reference, µs', 'Ratio by pairs', 'Instructions, library',
-            'Reference', 'Ratio']
-    first, last = (next(case for case in cases if case.name == name) for name in ('64', '512'))
-    times = [getattr(last, side).middle / getattr(first, side).middle for side in ('library', 'reference')]
-    said = (f'{order.capitalize()} tags: from 64 to 512 records, 8 times as many, the library takes {times[0]:.1f}'
-            f' times as long, the reference {times[1]:.1f} times.')
-    return said + '\n\n' + table(head, rows, left=0)
+    head = ['Records', 'Bytes', 'Library, µs', 'Reference, µs', 'Ratio by rounds', 'librpm, µs', 'librpm / library',
+            'Instructions, library', 'Reference', 'Ratio', 'librpm']
+    return table(head, rows, left=0)
 
 
-def sections(folder):
+def rest(folder):
+    """What follows; the long tables last."""
     run, cases = read_times(folder)
     counts = read_counts(folder)
     of = lambda group: [case for case in cases if case.group == group]
-    yield '## In short\n\n' + in_short(cases, counts)
+    yield '## Instructions'
+    yield from instructions(cases, counts)
+    yield '## How the time of one reading grows\n\n![Time over header records](performance.svg)'
+    for order in ('rising', 'shuffled'):
+        yield growth_said(of(f'growth {order}'), order)
+    yield '## The run\n\n' + machine(run)
     for title, what, group in [
         ('One reading', 'Package', 'reading'),
+        ('The test data: one reading', 'Package', 'data reading'),
         ('One look-up', 'Look-up', 'look-up'),
         ('One look-up of an element', 'Element', 'element'),
-        ('The test data: one reading', 'Package', 'data reading'),
         ('The test data: one look-up of tag 1126', 'Package', 'data look-up'),
     ]:
         yield '\n\n'.join([f'## {title}', *case_tables(what, of(group), counts)])
-    yield '## How the time of one reading grows\n\n![Time over header records](performance.svg)'
     for order in ('rising', 'shuffled'):
-        yield growth(of(f'growth {order}'), counts, order)
-    yield '## The run\n\n' + machine(run)
+        yield f'## More and more records, {order} tags\n\n' + growth(of(f'growth {order}'), counts)
+
+
+PARTS = [('the first table', first), ('the rest', rest)]
 
 
 def write(folder):
     page = DOCS / 'PERFORMANCE.md'
-    before, rest = page.read_text().split(BEGIN)
-    _, after = rest.split(END)
-    measured = '\n\n'.join([BEGIN, *sections(folder), END])
-    page.write_text(before + measured + after)
+    text = page.read_text()
+    for name, part in PARTS:
+        begin, end = BEGIN.format(name), END.format(name)
+        before, old = text.split(begin)
+        text = before + '\n\n'.join([begin, *part(folder), end]) + old.split(end)[1]
+    page.write_text(text)
     cases = read_times(folder)[1]
     panels = [(f'{order} tags', [case for case in cases if case.group == f'growth {order}'])
               for order in ('rising', 'shuffled')]
@@ -232,7 +362,7 @@ def main():
     elif mode == 'write':
         write(folder)
     else:
-        print('\n\n'.join(sections(folder)))
+        print('\n\n'.join(text for _, part in PARTS for text in part(folder)))
 
 
 if __name__ == '__main__':

@@ -1,14 +1,15 @@
-//! Times per call, in nanoseconds: batches of library and reference in turn. Time is
+//! Times per call, in nanoseconds: batches of library, reference and librpm in turn. Time is
 //! the processor's time for this thread, so that other programs' turns don't count.
 
 use std::hint::black_box;
 
-use crate::cases::{Case, Doses, Side, SIDES};
+use crate::cases::{Case, Doses, Side};
+use crate::librpm;
 
 /// How long a batch takes at least.
 const BATCH: f64 = 1_500_000.0;
 /// How many batches each side has.
-const PAIRS: usize = 101;
+const ROUNDS: usize = 101;
 
 extern "C" {
     // libc, on Linux.
@@ -65,21 +66,34 @@ fn quartiles(mut list: Vec<f64>) -> [f64; 3] {
     [0.25, 0.5, 0.75].map(|part| list[((list.len() - 1) as f64 * part).round() as usize])
 }
 
-/// A line for each case: group, name, bytes, answer's number and place, quartiles
-/// of the library's times, the reference's, and those of each pair's ratio.
+/// The quartiles of one side's times over another's of the same round.
+fn ratio(times: &[f64], others: &[f64]) -> [f64; 3] {
+    quartiles(times.iter().zip(others).map(|(a, b)| a / b).collect())
+}
+
+fn words(quartiles: &[[f64; 3]]) -> String {
+    let numbers = quartiles.iter().flatten();
+    let words: Vec<String> = numbers.map(|number| format!("{number:.4}")).collect();
+    words.join("\t")
+}
+
+/// A line for each case: group, name, bytes, records of signature and header, answer's
+/// number and place, quartiles of the library's times, the reference's, and those of each
+/// round's ratio; then librpm's times and librpm's ratio to the library, or a word.
 pub fn all(cases: &[Case]) {
     println!("pinned\t{}", if pin() { "yes" } else { "no" });
-    println!("batches\t{PAIRS}");
+    println!("batches\t{ROUNDS}");
     println!("milliseconds\t{}", BATCH / 1e6);
+    println!("librpm\t{}", librpm::version());
     let mut doses = Doses::new();
     let mut measured: Vec<Measured> = cases
         .iter()
         .map(|case| Measured::new(case, &mut doses))
         .collect();
     // All cases in each round, so that a slow while of the machine falls on all.
-    for round in 0..PAIRS {
+    for round in 0..ROUNDS {
         for one in &mut measured {
-            one.pair(round, &mut doses);
+            one.round(round, &mut doses);
         }
     }
     for one in measured {
@@ -87,44 +101,66 @@ pub fn all(cases: &[Case]) {
     }
 }
 
+/// A side with the calls of its batch and the times of one call.
+struct Timed {
+    side: Side,
+    calls: usize,
+    times: Vec<f64>,
+}
+
 struct Measured<'a> {
     case: &'a Case,
     answer: u64,
-    calls: [usize; 2],
-    times: [Vec<f64>; 2],
+    /// Library, reference, and librpm where it takes part.
+    sides: Vec<Timed>,
 }
 
 impl<'a> Measured<'a> {
     fn new(case: &'a Case, doses: &mut Doses) -> Measured<'a> {
+        let timed = |side| Timed {
+            side,
+            calls: calls(case, side, doses),
+            times: Vec::new(),
+        };
         Measured {
             case,
             answer: case.answer(),
-            calls: SIDES.map(|side| calls(case, side, doses)),
-            times: [Vec::new(), Vec::new()],
+            sides: case.sides().into_iter().map(timed).collect(),
         }
     }
 
-    /// A batch of each side; the library's goes first in every other round.
-    fn pair(&mut self, round: usize, doses: &mut Doses) {
-        for turn in 0..2 {
-            let side = (round + turn) % 2;
-            let time = batch(self.case, SIDES[side], self.calls[side], doses);
-            self.times[side].push(time / self.calls[side] as f64);
+    /// A batch of each side; another one goes first in each round.
+    fn round(&mut self, round: usize, doses: &mut Doses) {
+        let sides = self.sides.len();
+        for turn in 0..sides {
+            let timed = &mut self.sides[(round + turn) % sides];
+            let time = batch(self.case, timed.side, timed.calls, doses);
+            timed.times.push(time / timed.calls as f64);
+        }
+    }
+
+    /// Why librpm takes no part.
+    fn absent(&self) -> &'static str {
+        match (librpm::LINKED, self.case.is_reading()) {
+            (false, _) => "missing",
+            (true, false) => "none",
+            (true, true) => "refused",
         }
     }
 
     fn print(self) {
-        let [library, reference] = &self.times;
-        let ratios = library.iter().zip(reference).map(|(a, b)| a / b).collect();
-        let [library, reference] = self.times.map(quartiles);
-        let numbers: Vec<String> = [library, reference, quartiles(ratios)]
-            .iter()
-            .flatten()
-            .map(|number| format!("{number:.4}"))
-            .collect();
-        let (group, name, bytes) = (self.case.group, &self.case.name, self.case.package.len());
+        let case = self.case;
+        let times = |side: usize| &self.sides[side].times[..];
+        let quarters = |side: usize| quartiles(times(side).to_vec());
+        let ours = words(&[quarters(0), quarters(1), ratio(times(0), times(1))]);
+        let librpm = match self.sides.len() {
+            2 => self.absent().to_string(),
+            _ => words(&[quarters(2), ratio(times(2), times(0))]),
+        };
+        let (group, name, bytes) = (case.group, &case.name, case.package.len());
+        let [signature, header] = case.records();
         let (number, place) = (self.answer >> 32, self.answer as u32);
-        let numbers = numbers.join("\t");
-        println!("{group}\t{name}\t{bytes}\t{number}\t{place}\t{numbers}");
+        print!("{group}\t{name}\t{bytes}\t{signature}\t{header}\t");
+        println!("{number}\t{place}\t{ours}\t{librpm}");
     }
 }
