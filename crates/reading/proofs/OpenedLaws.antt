@@ -20,7 +20,8 @@ use Rattle.index.specs.declared.Found.the-variants.{At, Nothing}
 use Rattle.catalogue.specs.declared.Line.{Line}
 use Rattle.catalogue.specs.Catalogue.{inEdition, lineAt}
 use Rattle.tags.specs.Tags.{numberIn}
-use Rattle.texts.specs.Texts.{entryIn, foundBytes}
+use Rattle.index.specs.Lookup.{foundBytes}
+use Rattle.texts.specs.Texts.{entryIn}
 use Rattle.rules.specs.Rules.{rulesCheck}
 use Rattle.book.specs.declared.Weighed.{Weighed}
 use Rattle.book.specs.declared.Weighed.the-variants as weighed′

@@ -12,7 +12,8 @@ use Rattle.format.specs.declared.verdict.Answer.the-variants.{Done, Refused}
 use Rattle.format.specs.Verdicts.{check, both}
 use Rattle.package.specs.Package.{soundCheck, signatureAt, headerAt}
 use Rattle.tags.specs.Tags.{numberIn}
-use Rattle.texts.specs.Texts.{entryIn, foundBytes}
+use Rattle.index.specs.Lookup.{foundBytes}
+use Rattle.texts.specs.Texts.{entryIn}
 use Rattle.rules.specs.Rules.{rulesCheck}
 use Rattle.book.specs.Book.{bookTag, bookCheck}
 use Rattle.book.specs.Doses.{doses, sumOf, numbersPerDose}
