@@ -15,7 +15,8 @@ use Rattle.tags.specs.Tags.{numberIn}
 use Rattle.texts.specs.Texts.{entryIn, foundBytes}
 use Rattle.rules.specs.Rules.{rulesCheck}
 use Rattle.book.specs.Book.{bookTag, bookCheck}
-use Rattle.book.specs.Doses.{doses, sumOf, numbersPerDose}
+use Rattle.book.specs.Doses.{doses, sumOf}
+use Rattle.buffer.specs.Buffer.{numbersPerDose}
 use Rattle.reading.specs.Editions.{Edition, editionOf, hasBatch, batchTag}
 
 -- 1 | edition not 1 or 2 | 0
