@@ -1,3 +1,4 @@
 pub mod VerdictLaws
 pub mod RecordLaws
+pub mod LeadLaws
 pub mod NumberLaws
