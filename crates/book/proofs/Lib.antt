@@ -2,6 +2,5 @@ pub mod PlaceLaws
 pub mod KindLaws
 pub mod DoseLaws
 pub mod RecordsLaws
-pub mod BufferLaws
 pub mod WeighLaws
 pub mod PassLaws

@@ -1,5 +1,5 @@
--- Where records start: none past the end, any sufficient bound gives the same places (enough), and behind a record the
--- next one starts (first).
+-- Where records start: right behind a body (end-of), none past the end, any sufficient bound gives the same places
+-- (enough), and behind a record the next one starts (first).
 use Prim.Native.Nat.{ℕ, zero, suc, _+_, _-_, _≤_, _<_}
 use mathlib.Core.Path.{_≡_, refl, sym, ap, _∙_}
 use mathlib.Core.List.{List, [], _∷_}
@@ -8,7 +8,12 @@ use lib.ListN.{length}
 use lib.Dec.{leb}
 use native.Mathlib.Omega.{arith}
 use borrow.Author.Tests.{le-leb, lt-leb}
-use Rattle.book.specs.Book.{recordEnd, placesFrom}
+use Rattle.book.specs.Kinds.{bodySize}
+use Rattle.book.specs.Book.{kindAt, recordEnd, placesFrom}
+
+-- size is the body's, as read
+pub end-of : (b : List ℕ) (at : ℕ) {size : ℕ} → size ≡ bodySize (kindAt b at) → at + 1 + size ≡ recordEnd b at
+end-of b at e = rw e
 
 module _ (b : List ℕ) where
   pub none : (n at : ℕ) → length b ≤ at → placesFrom b n at ≡ []

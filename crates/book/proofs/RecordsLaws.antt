@@ -14,7 +14,7 @@ use Rattle.format.specs.Verdicts.{both, check}
 use Rattle.format.proofs.VerdictLaws.{both-pass, both-fail}
 use Rattle.book.specs.declared.dose.Dose.{Dose}
 use Rattle.book.specs.declared.Weighed.the-variants.{Doses, Unsound}
-use Rattle.book.specs.Kinds.{isWeighed, isBare, isKnown}
+use Rattle.book.specs.Kinds.{isWeighed, bodySize, isBare, isKnown}
 use Rattle.book.specs.Book.{kindAt, recordEnd, placesFrom, doseAt, bodyFits, doseLawful, recordCheck, recordsCheck}
 use Rattle.book.specs.Doses.{dosesOf, sumOf, weighedAs}
 use Rattle.book.proofs.PlaceLaws.{first, none}
@@ -188,5 +188,6 @@ bare-skipped f b at l h t sofar inv =
 pub bare-not : (kind : ℕ) {w : Bool} → w ≡ isWeighed kind → w ≡ true → false ≡ isBare kind
 bare-not kind h t = rw (sym h ∙ t)
 
-pub bare-by : (kind : ℕ) {w : Bool} → w ≡ isWeighed kind → w ≡ false → eqb (kind % 16) 0 ≡ isBare kind
-bare-by kind h t = rw (sym h ∙ t)
+pub bare-by : (kind : ℕ) {w : Bool} {size : ℕ} → w ≡ isWeighed kind → w ≡ false → size ≡ bodySize kind
+    → eqb size 0 ≡ isBare kind
+bare-by kind h t e = rw (e, sym h ∙ t)

@@ -1,9 +1,8 @@
--- Document 01, "Book": the doses of a book, which do not depend on the edition, and their numbers in a buffer.
-use Prim.Native.Nat.{ℕ, _+_, _/_, _%_}
-use mathlib.Core.List.{List, [], _∷_, _++_}
+-- Document 01, "Book": the doses of a book, which do not depend on the edition.
+use Prim.Native.Nat.{ℕ, _+_}
+use mathlib.Core.List.{List, [], _∷_}
 use mathlib.Core.Bool.{cond}
 use lib.ListN.{length}
-use lib.Seq.{sets}
 use Rattle.format.specs.declared.verdict.Verdict.{Verdict}
 use Rattle.format.specs.declared.verdict.Verdict.the-variants.{Pass, Fail}
 use Rattle.book.specs.declared.dose.Dose.{Dose}
@@ -23,29 +22,6 @@ doses b = dosesOf b (places b)
 unfoldable pub sumOf : List Dose → ℕ
 sumOf [] = 0
 sumOf (dose ∷ rest) = dose .milligrams .0 + sumOf rest
-
--- a dose as numbers: oxide then milligrams
-abbrev pub numbersPerDose : ℕ
-numbersPerDose = 2
-
-unfoldable pub numbersOf : List Dose → List ℕ
-numbersOf [] = []
-numbersOf (dose ∷ rest) = dose .oxide .0 ∷ dose .milligrams .0 ∷ numbersOf rest
-
--- for C: four bytes to a number, big-endian
-abbrev pub bytesOf : ℕ → List ℕ
-bytesOf n = n / 16777216 % 256 ∷ n / 65536 % 256 ∷ n / 256 % 256 ∷ n % 256 ∷ []
-
-unfoldable pub numberBytes : List ℕ → List ℕ
-numberBytes [] = []
-numberBytes (n ∷ rest) = bytesOf n ++ numberBytes rest
-
--- a buffer with a book's doses at its front, as far as they fit
-abbrev pub withDoses : List ℕ → List ℕ → List ℕ
-withDoses b before = sets before 0 (numbersOf (doses b))
-
-abbrev pub withDoseBytes : List ℕ → List ℕ → List ℕ
-withDoseBytes b before = sets before 0 (numberBytes (numbersOf (doses b)))
 
 -- a book that passed 19 to 22, by the number and the sum of its doses
 abbrev pub weighedAs : Verdict → ℕ → ℕ → Weighed

@@ -21,6 +21,8 @@ impl Dose {
     pub const MILLIGRAMS: usize = 3;
     // How many numbers a dose takes in a buffer.
     pub const NUMBERS: u32 = 2;
+    // How many bytes it takes in a buffer of bytes.
+    pub const BYTES: usize = 8;
 
     // The dose of the weighed record at a place of a book.
     pub fn at(book: &[u8], at: usize) -> Self
@@ -53,9 +55,7 @@ impl Dose {
         let m = at + Self::MILLIGRAMS;
         Self {
             oxide: Oxide(be::join16(book[o], book[o + 1])),
-            milligrams: Milligrams(
-                be::join32(book[m], book[m + 1], book[m + 2], book[m + 3]),
-            ),
+            milligrams: Milligrams(be::join32(book[m], book[m + 1], book[m + 2], book[m + 3])),
         }
     }
 

@@ -1,13 +1,11 @@
 // A book of recipes: kinds, records and doses over the book's bytes alone. Checks 19 to 22.
 ghost use mathlib.Core.Path.{_≡_};
-ghost use Prim.Native.Nat.{_≤_, _<_};
+ghost use Prim.Native.Nat.{_≤_};
 ghost use lib.ListN.{length};
-ghost use Rattle.book.specs.Kinds.{isWeighed, isBare, isKnown};
-ghost use Rattle.book.specs.Book.{recordEnd, places};
-ghost use Rattle.book.specs.Book.{recordsCheck, lengthCheck};
+ghost use Rattle.book.specs.Kinds.{isWeighed, bodySize, isBare, isKnown};
+ghost use Rattle.book.specs.Book.{bookLimit, places, recordsCheck, lengthCheck};
 ghost use Rattle.book.specs.Doses.{doses, sumOf, weighedAs, weighed};
 
-pub mod buffer;
 pub mod dose;
 
 pub use dose::Dose;
@@ -32,18 +30,17 @@ impl Book {
 }
 
 // Whether a kind is weighed.
-fn is_weighed(kind: u8) -> bool
+pub fn is_weighed(kind: u8) -> bool
     ensures { λ r. ⌜ r ≡ isWeighed kind ⌝ }
 {
     128 <= kind
 }
 
-// The place right behind the body of the record at a place.
-fn record_end(book: &[u8], at: usize) -> usize
-    requires { ⌜ at < length (now book) ⌝ }
-    ensures { λ r. ⌜ r ≡ recordEnd (now (book .entry)) at ⌝ }
+// How many bytes the body of a kind has.
+pub fn body_size(kind: u8) -> usize
+    ensures { λ r. ⌜ r ≡ bodySize kind ⌝ }
 {
-    at + 1 + book[at] as usize % 16
+    kind as usize % 16
 }
 
 // Whether an edition knows a kind: each kind and the edition that lists it.
@@ -77,12 +74,12 @@ fn is_bare(kind: u8) -> bool
     if is_weighed(kind) {
         return false;
     }
-    kind % 16 == 0
+    body_size(kind) == 0
 }
 
 // Checks 20 to 22 for each record in turn, with the number and the sum of the doses.
 fn records(edition: u32, book: &[u8]) -> Weighed
-    requires { ⌜ length (now book) ≤ 4096 ⌝ }
+    requires { ⌜ length (now book) ≤ bookLimit ⌝ }
     ensures { λ r. ⌜ r ≡ weighedAs (recordsCheck (isKnown edition) (now (book .entry)) (places (now (book .entry))))
         (length (doses (now (book .entry)))) (sumOf (doses (now (book .entry)))) ⌝ }
 {
@@ -96,7 +93,7 @@ fn records(edition: u32, book: &[u8]) -> Weighed
         if is_bare(kind) {
             at = here + 1;
         } else {
-            at = record_end(book, here);
+            at = here + 1 + body_size(kind);
             if is_weighed(kind) {
                 if !known(edition, kind) {
                     return Weighed::Unsound(20, here as u32);

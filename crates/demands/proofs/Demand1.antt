@@ -6,7 +6,8 @@ use lib.ListN.{length, drop}
 use lib.Seq.{sets, sets-eq}
 use native.Mathlib.Omega.{arith}
 use Rattle.book.specs.declared.dose.Dose.{Dose}
-use Rattle.book.specs.Doses.{doses, numbersOf}
+use Rattle.book.specs.Doses.{doses}
+use Rattle.buffer.specs.Buffer.{numbersOf}
 use Rattle.reading.specs.Reading.{bookOf, readingCheck}
 use Rattle.reading.specs.Buffers.{leftIn}
 use Rattle.demands.specs.Demands.{RefusedKeeps, AcceptedWrites}

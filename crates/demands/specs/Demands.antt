@@ -12,7 +12,8 @@ use Rattle.format.specs.declared.verdict.Answer.the-variants.{Done, Refused}
 use Rattle.catalogue.specs.Catalogue.{lineAt}
 use Rattle.book.specs.Kinds.{isWeighed}
 use Rattle.book.specs.Book.{kindAt, places}
-use Rattle.book.specs.Doses.{doses, numbersOf}
+use Rattle.book.specs.Doses.{doses}
+use Rattle.buffer.specs.Buffer.{numbersOf}
 use Rattle.reading.specs.Editions.{Edition, Extends, editionOf, batchTag, batchLine}
 use Rattle.reading.specs.Reading.{bookOf, needed, checksAt, readAnswer}
 use Rattle.reading.specs.Buffers.{bufferAfter, Read}

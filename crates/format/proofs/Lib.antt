@@ -1,4 +1,5 @@
 pub mod VerdictLaws
 pub mod RecordLaws
+pub mod LeadLaws
 pub mod NumberLaws
 pub mod RunLaws

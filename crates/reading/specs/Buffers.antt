@@ -8,7 +8,8 @@ use Rattle.format.specs.declared.verdict.Verdict.{Verdict}
 use Rattle.format.specs.declared.verdict.Verdict.the-variants.{Pass, Fail}
 use Rattle.format.specs.declared.verdict.Answer.{Answer}
 use Rattle.package.specs.Package.{headerAt}
-use Rattle.book.specs.Doses.{doses, withDoses, withDoseBytes}
+use Rattle.book.specs.Doses.{doses}
+use Rattle.buffer.specs.Buffer.{withDoses, withDoseBytes}
 use Rattle.reading.specs.declared.Decided.{Decided}
 use Rattle.reading.specs.declared.Decided.the-variants.{Accepted, Refused}
 use Rattle.reading.specs.Reading.{bookOf, readingCheck, readAnswer}

@@ -16,7 +16,8 @@ use Rattle.index.specs.Lookup.{foundBytes}
 use Rattle.texts.specs.Texts.{entryIn}
 use Rattle.rules.specs.Rules.{rulesCheck}
 use Rattle.book.specs.Book.{bookTag, bookCheck}
-use Rattle.book.specs.Doses.{doses, sumOf, numbersPerDose}
+use Rattle.book.specs.Doses.{doses, sumOf}
+use Rattle.buffer.specs.Buffer.{numbersPerDose}
 use Rattle.reading.specs.Editions.{Edition, editionOf, hasBatch, batchTag}
 
 -- 1 | edition not 1 or 2 | 0

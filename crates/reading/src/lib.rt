@@ -64,7 +64,7 @@ pub fn read(edition: u32, pkg: &[u8], doses: &mut [u32]) -> Answer
     match found {
         Decided::Refused(number, place) => Answer::Refused(number, place),
         Decided::Accepted(count, header) => {
-            book::buffer::write(book_part(pkg, header), doses);
+            buffer::write(book_part(pkg, header), doses);
             Answer::Done(count)
         }
     }
@@ -78,7 +78,7 @@ pub fn read_bytes(edition: u32, pkg: &[u8], doses: &mut [u8]) -> Answer
     match found {
         Decided::Refused(number, place) => Answer::Refused(number, place),
         Decided::Accepted(count, header) => {
-            book::buffer::write_bytes(book_part(pkg, header), doses);
+            buffer::write_bytes(book_part(pkg, header), doses);
             Answer::Done(count)
         }
     }

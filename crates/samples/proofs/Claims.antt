@@ -9,7 +9,8 @@ use Rattle.entries.specs.Entries.{countRight, dataEnd, tagBefore, entryCheck}
 use Rattle.structure.specs.Structure.{headerCheck, recordsFrom, structureCheck}
 use Rattle.book.specs.Kinds.{isKnown}
 use Rattle.book.specs.Book.{placesFrom, doseLawful, recordCheck, recordsCheck, lengthCheck, bookCheck}
-use Rattle.book.specs.Doses.{dosesOf, numbersOf}
+use Rattle.book.specs.Doses.{dosesOf}
+use Rattle.buffer.specs.Buffer.{numbersOf}
 use Rattle.samples.specs.Samples.{samples, allRight}
 
 pub samples-right : T (allRight samples)

@@ -8,7 +8,8 @@ use Rattle.format.specs.declared.verdict.Verdict.{Verdict}
 use Rattle.format.specs.declared.verdict.Verdict.the-variants.{Pass, Fail}
 use Rattle.book.specs.Kinds.{isKnown}
 use Rattle.book.specs.Book.{bookCheck}
-use Rattle.book.specs.Doses.{doses, numbersOf}
+use Rattle.book.specs.Doses.{doses}
+use Rattle.buffer.specs.Buffer.{numbersOf}
 use Rattle.samples.specs.Stores.{isVerdict}
 
 pub record BookSample : Type 0 where

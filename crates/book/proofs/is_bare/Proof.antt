@@ -3,9 +3,6 @@ use Rattle.book.proofs.RecordsLaws as laws
 use borrow.Author.Needs.{needs}
 use Rattle.book.proofs.is_bare.Statement.{statement}
 use Rattle.book.proofs.is_bare.Tie as tie
-use Rattle.book.proofs.is_bare.Reads as reads
-use Rattle.book.proofs.is_bare.Lts as lts
-use Rattle.book.proofs.is_weighed.Reads as is-weighed-reads
 
 is-weighed-requires : tie.Need-is-weighed-requires
 is-weighed-requires c κs = search needs
@@ -13,8 +10,11 @@ is-weighed-requires c κs = search needs
 returns : tie.Need-returns
 returns c = search laws.bare-not
 
+body-size-requires : tie.Need-body-size-requires
+body-size-requires c κs = search needs
+
 returns-2 : tie.Need-returns-2
 returns-2 c = search laws.bare-by
 
 pub is-bare-spec : {M : Type 1} → statement M
-is-bare-spec = tie.close (tie.spec is-weighed-requires returns returns-2)
+is-bare-spec = tie.close (tie.spec is-weighed-requires returns body-size-requires returns-2)

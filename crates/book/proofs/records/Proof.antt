@@ -7,18 +7,11 @@ use native.Mathlib.Nat.{sub-zero, zero-add}
 use Rattle.book.specs.Kinds.{isKnown}
 use Rattle.book.specs.Book.{placesFrom, places, recordsCheck}
 use Rattle.book.specs.Doses.{dosesOf, doses, sumOf}
+use Rattle.book.proofs.PlaceLaws.{end-of}
 use Rattle.book.proofs.RecordsLaws as laws
 use borrow.Author.Needs.{needs}
 use Rattle.book.proofs.records.Statement.{statement}
 use Rattle.book.proofs.records.Tie as tie
-use Rattle.book.proofs.records.Reads as reads
-use Rattle.book.proofs.records.Lts as lts
-use Rattle.book.proofs.dose.Dose.lawful.Reads as lawful-reads
-use Rattle.book.proofs.dose.Dose.within.Reads as within-reads
-use Rattle.book.proofs.is_bare.Reads as is-bare-reads
-use Rattle.book.proofs.is_weighed.Reads as is-weighed-reads
-use Rattle.book.proofs.known.Reads as known-reads
-use Rattle.book.proofs.record_end.Reads as record-end-reads
 
 abbrev Inv-loop : tie.InvT-loop
 Inv-loop edition book len at₀ count₀ sum₀ at count sum = (recordsCheck (isKnown edition) book (places book)
@@ -49,8 +42,14 @@ loop-less c = search needs
 loop-again : tie.Need-loop-again Inv-loop μ-loop
 loop-again c = (search laws.bare-turn, search (laws.bare-skipped length), search (laws.bare-skipped sumOf), search needs, search needs)
 
-record-end-requires : tie.Need-record-end-requires Inv-loop μ-loop
-record-end-requires c κs = search needs
+add-at-2 : tie.Need-add-at-2 Inv-loop μ-loop
+add-at-2 c = search needs
+
+body-size-requires : tie.Need-body-size-requires Inv-loop μ-loop
+body-size-requires c κs = search needs
+
+add-at-3 : tie.Need-add-at-3 Inv-loop μ-loop
+add-at-3 c = search needs
 
 is-weighed-requires : tie.Need-is-weighed-requires Inv-loop μ-loop
 is-weighed-requires c κs = search needs
@@ -58,26 +57,35 @@ is-weighed-requires c κs = search needs
 known-requires : tie.Need-known-requires Inv-loop μ-loop
 known-requires c κs = search needs
 
-cast-t17 : tie.Need-cast-t17 Inv-loop μ-loop
-cast-t17 c = search needs
+cast-t19 : tie.Need-cast-t19 Inv-loop μ-loop
+cast-t19 c = search needs
 
 returns : tie.Need-returns Inv-loop μ-loop
-returns c = search laws.unknown
+returns c = search (laws.unknown, end-of)
 
-cast-t18 : tie.Need-cast-t18 Inv-loop μ-loop
-cast-t18 c = search needs
+cast-t20 : tie.Need-cast-t20 Inv-loop μ-loop
+cast-t20 c = search needs
 
 returns-2 : tie.Need-returns-2 Inv-loop μ-loop
-returns-2 c = search laws.weighed-past
+returns-2 c =
+    let knows = c .before in
+    let at-known = knows .before in
+    let weighed = at-known .before in
+    let at-weighed = weighed .before in
+    let at-size = at-weighed .before in
+    let in-loop = at-size .before .before .before .before in
+    laws.weighed-past _ _ _ (in-loop .loop-test .taken) (end-of (in-loop .before .before .before .args .book .now) _ (at-size .body-size .ensures))
+    (at-weighed .is-weighed .ensures) (in-loop .before .loop .inv .0) (weighed .if2 .taken) (at-known .known .ensures)
+    (knows .if3 .left) (c .if4 .taken) _ _
 
 within-requires : tie.Need-within-requires Inv-loop μ-loop
-within-requires c κs = search laws.within-book
+within-requires c κs = search (laws.within-book, end-of)
 
 lawful-requires : tie.Need-lawful-requires Inv-loop μ-loop
 lawful-requires c κs = search needs
 
-cast-t19 : tie.Need-cast-t19 Inv-loop μ-loop
-cast-t19 c = search needs
+cast-t21 : tie.Need-cast-t21 Inv-loop μ-loop
+cast-t21 c = search needs
 
 returns-3 : tie.Need-returns-3 Inv-loop μ-loop
 returns-3 c =
@@ -88,9 +96,9 @@ returns-3 c =
     let at-known = knows .before in
     let weighed = at-known .before in
     let at-weighed = weighed .before in
-    let at-end = at-weighed .before in
-    let in-loop = at-end .before .before .before .before in
-    laws.unlawful _ _ _ (in-loop .loop-test .taken) (at-end .record-end .ensures) (at-weighed .is-weighed .ensures)
+    let at-size = at-weighed .before in
+    let in-loop = at-size .before .before .before .before in
+    laws.unlawful _ _ _ (in-loop .loop-test .taken) (end-of (in-loop .before .before .before .args .book .now) _ (at-size .body-size .ensures)) (at-weighed .is-weighed .ensures)
     (in-loop .before .loop .inv .0) (weighed .if2 .taken) (at-known .known .ensures) (knows .if3 .left) (fits .if4 .left)
     (at-within .within .ensures) (at-lawful .lawful .ensures) (c .if5 .taken) _ _
 
@@ -107,19 +115,19 @@ loop-less-2 : tie.Need-loop-less-2 Inv-loop μ-loop
 loop-less-2 c = search needs
 
 loop-again-2 : tie.Need-loop-again-2 Inv-loop μ-loop
-loop-again-2 c = (search laws.weighed-turn, search laws.counted, search laws.summed, search needs, search needs)
+loop-again-2 c = (search (laws.weighed-turn, end-of), search (laws.counted, end-of), search (laws.summed, end-of), search needs, search needs)
 
-cast-t22 : tie.Need-cast-t22 Inv-loop μ-loop
-cast-t22 c = search needs
+cast-t24 : tie.Need-cast-t24 Inv-loop μ-loop
+cast-t24 c = search needs
 
 returns-4 : tie.Need-returns-4 Inv-loop μ-loop
-returns-4 c = search laws.remark-past
+returns-4 c = search (laws.remark-past, end-of)
 
 loop-less-3 : tie.Need-loop-less-3 Inv-loop μ-loop
 loop-less-3 c = search needs
 
 loop-again-3 : tie.Need-loop-again-3 Inv-loop μ-loop
-loop-again-3 c = (search laws.remark-turn, search (laws.skipped length), search (laws.skipped sumOf), search needs, search needs)
+loop-again-3 c = (search (laws.remark-turn, end-of), search (laws.skipped length, end-of), search (laws.skipped sumOf, end-of), search needs, search needs)
 
 returns-5 : tie.Need-returns-5 Inv-loop μ-loop
 returns-5 c = search laws.spent
@@ -136,23 +144,25 @@ records-spec =
     add-at
     loop-less
     loop-again
-    record-end-requires
+    add-at-2
+    body-size-requires
+    add-at-3
     is-weighed-requires
     known-requires
-    cast-t17
+    cast-t19
     returns
-    cast-t18
+    cast-t20
     returns-2
     within-requires
     lawful-requires
-    cast-t19
+    cast-t21
     returns-3
     cast-sum
     add-sum
     add-count
     loop-less-2
     loop-again-2
-    cast-t22
+    cast-t24
     returns-4
     loop-less-3
     loop-again-3

@@ -1,5 +1,5 @@
 -- What was decided gives the answer, and what is written then the buffer. Assumes nothing.
-use Rattle.book.specs.Doses.{withDoses}
+use Rattle.buffer.specs.Buffer.{withDoses}
 use lib.ListN.{length}
 use Rattle.reading.proofs.DecideLaws as laws
 use borrow.Author.Needs.{needs}

@@ -1,5 +1,5 @@
 -- What was decided gives the answer, and what is written then the buffer. Assumes nothing.
-use Rattle.book.specs.Doses.{withDoseBytes}
+use Rattle.buffer.specs.Buffer.{withDoseBytes}
 use Rattle.reading.specs.Buffers.{numbersIn}
 use Rattle.reading.proofs.DecideLaws as laws
 use borrow.Author.Needs.{needs}

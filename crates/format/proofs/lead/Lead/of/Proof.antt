@@ -1,5 +1,6 @@
 -- Each field is read at its place. Assumes nothing.
 use borrow.Author.Needs.{needs}
+use Rattle.format.proofs.LeadLaws.{lead-read}
 use Rattle.format.proofs.lead.Lead.of.Statement.{statement}
 use Rattle.format.proofs.lead.Lead.of.Tie as tie
 
@@ -28,7 +29,7 @@ be16-requires-3 : tie.Need-be16-requires-3
 be16-requires-3 c κs = search needs
 
 returns : tie.Need-returns
-returns c = cc
+returns c = search lead-read
 
 pub of-spec : {M : Type 1} → statement M
 of-spec =

@@ -1,12 +1,11 @@
 -- The two numbers' bytes, one number behind the other. Assumes nothing.
-use Rattle.book.proofs.BufferLaws as laws
+use Rattle.buffer.proofs.BufferLaws as laws
 use borrow.Author.Needs.{needs}
-use Rattle.book.proofs.buffer.put_dose_bytes.Statement.{statement}
-use Rattle.book.proofs.buffer.put_dose_bytes.Tie as tie
-use Rattle.book.proofs.buffer.put_dose_bytes.Reads as reads
-use Rattle.book.proofs.buffer.put_dose_bytes.Lts as lts
-use Rattle.book.proofs.buffer.put_number.Reads as put-number-reads
-use Rattle.book.proofs.buffer.put_whole.Reads as put-whole-reads
+use Rattle.buffer.proofs.put_dose_bytes.Statement.{statement}
+use Rattle.buffer.proofs.put_dose_bytes.Tie as tie
+
+add-second : tie.Need-add-second
+add-second c = search needs
 
 add-end : tie.Need-add-end
 add-end c = search needs
@@ -16,9 +15,6 @@ cast-put-whole c = search needs
 
 put-whole-requires : tie.Need-put-whole-requires
 put-whole-requires c κs = search needs
-
-add-put-whole : tie.Need-add-put-whole
-add-put-whole c = search needs
 
 put-whole-requires-2 : tie.Need-put-whole-requires-2
 put-whole-requires-2 c κs = search needs
@@ -35,9 +31,6 @@ cast-put-number c = search needs
 put-number-requires : tie.Need-put-number-requires
 put-number-requires c κs = search needs
 
-add-put-number : tie.Need-add-put-number
-add-put-number c = search needs
-
 put-number-requires-2 : tie.Need-put-number-requires-2
 put-number-requires-2 c κs = search needs
 
@@ -51,16 +44,15 @@ pub put-dose-bytes-spec : {M : Type 1} → statement M
 put-dose-bytes-spec =
     tie.close
     (tie.spec
+    add-second
     add-end
     cast-put-whole
     put-whole-requires
-    add-put-whole
     put-whole-requires-2
     same-length
     returns
     cast-put-number
     put-number-requires
-    add-put-number
     put-number-requires-2
     same-length-2
     returns-2)

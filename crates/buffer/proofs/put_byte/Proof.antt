@@ -1,12 +1,9 @@
 -- A place at or past the end has nothing to store.
 -- Assumes nothing.
-use Rattle.book.proofs.BufferLaws as laws
+use Rattle.buffer.proofs.BufferLaws as laws
 use borrow.Author.Needs.{needs}
-use Rattle.book.proofs.buffer.put.Statement.{statement}
-use Rattle.book.proofs.buffer.put.Tie as tie
-
-mul-out : tie.Need-mul-out
-mul-out c = search needs
+use Rattle.buffer.proofs.put_byte.Statement.{statement}
+use Rattle.buffer.proofs.put_byte.Tie as tie
 
 slice-write-out : tie.Need-slice-write-out
 slice-write-out c = search needs
@@ -20,5 +17,5 @@ returns c = search needs
 returns-2 : tie.Need-returns-2
 returns-2 c = search laws.out-of-room
 
-pub put-spec : {M : Type 1} → statement M
-put-spec = tie.close (tie.spec mul-out slice-write-out same-length returns returns-2)
+pub put-byte-spec : {M : Type 1} → statement M
+put-byte-spec = tie.close (tie.spec slice-write-out same-length returns returns-2)

@@ -1,11 +1,17 @@
-// Doses in a buffer, as numbers and as bytes.
+// A book's doses in a lent buffer, as numbers and as bytes.
 ghost use mathlib.Core.Path.{_≡_};
 ghost use Prim.Native.Nat.{_+_, _≤_, _<_, _^_};
 ghost use mathlib.Core.List.{[], _∷_};
 ghost use lib.ListN.{length, set};
 ghost use lib.Seq.{sets};
-ghost use Rattle.book.specs.Doses.{numbersOf, bytesOf, numberBytes, withDoses, withDoseBytes};
-use crate::dose::Dose;
+ghost use Rattle.buffer.specs.Buffer.{numbersPerDose, numbersOf, withDoses};
+ghost use Rattle.buffer.specs.Buffer.{bytesPerNumber, bytesPerDose, bytesOf, numberBytes, withDoseBytes};
+use book::Dose;
+use book::body_size;
+use book::is_weighed;
+
+// How many bytes a number takes in a buffer of bytes.
+pub const NUMBER_BYTES: usize = 4;
 
 // Puts a number at a place of the buffer, where that has it.
 fn put(out: &mut [u32], i: usize, n: u32)
@@ -18,7 +24,7 @@ fn put(out: &mut [u32], i: usize, n: u32)
 
 // Puts a dose's two numbers from a place of the buffer on, as far as that has them.
 fn put_dose(out: &mut [u32], i: usize, dose: Dose)
-    requires { ⌜ i + 2 < 2 ^ 64 ⌝ }
+    requires { ⌜ i + numbersPerDose < 2 ^ 64 ⌝ }
     ensures { λ r. ⌜ now (out .exit) ≡ sets (now (out .entry)) i (numbersOf (dose ∷ [])) ⌝ }
 {
     put(out, i, dose.oxide.0 as u32);
@@ -36,10 +42,11 @@ pub fn write(book: &[u8], out: &mut [u32])
             return;
         }
         let here = at;
-        at = crate::record_end(book, here);
-        if crate::is_weighed(book[here]) {
+        let kind = book[here];
+        at = here + 1 + body_size(kind);
+        if is_weighed(kind) {
             put_dose(out, i, Dose::at(book, here));
-            i += 2;
+            i += Dose::NUMBERS as usize;
         }
     }
 }
@@ -55,7 +62,7 @@ fn put_byte(out: &mut [u8], i: usize, b: u8)
 
 // Puts a number's four bytes from a place of the buffer on, which has them.
 fn put_whole(out: &mut [u8], i: usize, n: u32)
-    requires { ⌜ i + 4 ≤ length (now out) ⌝ }
+    requires { ⌜ i + bytesPerNumber ≤ length (now out) ⌝ }
     ensures { λ r. ⌜ now (out .exit) ≡ sets (now (out .entry)) i (bytesOf n) ⌝ }
 {
     out[i] = (n / 16777216 % 256) as u8;
@@ -66,10 +73,10 @@ fn put_whole(out: &mut [u8], i: usize, n: u32)
 
 // Puts a number's four bytes from a place of the buffer on, as far as that has them.
 fn put_number(out: &mut [u8], i: usize, n: u32)
-    requires { ⌜ i + 4 < 2 ^ 64 ⌝ }
+    requires { ⌜ i + bytesPerNumber < 2 ^ 64 ⌝ }
     ensures { λ r. ⌜ now (out .exit) ≡ sets (now (out .entry)) i (bytesOf n) ⌝ }
 {
-    let end = i + 4;
+    let end = i + NUMBER_BYTES;
     if end <= out.len() {
         put_whole(out, i, n);
         return;
@@ -82,17 +89,18 @@ fn put_number(out: &mut [u8], i: usize, n: u32)
 
 // Puts a dose's eight bytes from a place of the buffer on, as far as that has them.
 fn put_dose_bytes(out: &mut [u8], i: usize, dose: Dose)
-    requires { ⌜ i + 8 < 2 ^ 64 ⌝ }
+    requires { ⌜ i + bytesPerDose < 2 ^ 64 ⌝ }
     ensures { λ r. ⌜ now (out .exit) ≡ sets (now (out .entry)) i (numberBytes (numbersOf (dose ∷ []))) ⌝ }
 {
-    let end = i + 8;
+    let second = i + NUMBER_BYTES;
+    let end = i + Dose::BYTES;
     if end <= out.len() {
         put_whole(out, i, dose.oxide.0 as u32);
-        put_whole(out, i + 4, dose.milligrams.0);
+        put_whole(out, second, dose.milligrams.0);
         return;
     }
     put_number(out, i, dose.oxide.0 as u32);
-    put_number(out, i + 4, dose.milligrams.0);
+    put_number(out, second, dose.milligrams.0);
 }
 
 // Writes a book's doses at the front of a buffer of bytes, four to a number, big-endian, as far as they fit.
@@ -106,10 +114,11 @@ pub fn write_bytes(book: &[u8], out: &mut [u8])
             return;
         }
         let here = at;
-        at = crate::record_end(book, here);
-        if crate::is_weighed(book[here]) {
+        let kind = book[here];
+        at = here + 1 + body_size(kind);
+        if is_weighed(kind) {
             put_dose_bytes(out, i, Dose::at(book, here));
-            i += 8;
+            i += Dose::BYTES;
         }
     }
 }

@@ -1,9 +1,12 @@
 -- A place at or past the end has nothing to store.
 -- Assumes nothing.
-use Rattle.book.proofs.BufferLaws as laws
+use Rattle.buffer.proofs.BufferLaws as laws
 use borrow.Author.Needs.{needs}
-use Rattle.book.proofs.buffer.put_byte.Statement.{statement}
-use Rattle.book.proofs.buffer.put_byte.Tie as tie
+use Rattle.buffer.proofs.put.Statement.{statement}
+use Rattle.buffer.proofs.put.Tie as tie
+
+mul-out : tie.Need-mul-out
+mul-out c = search needs
 
 slice-write-out : tie.Need-slice-write-out
 slice-write-out c = search needs
@@ -17,5 +20,5 @@ returns c = search needs
 returns-2 : tie.Need-returns-2
 returns-2 c = search laws.out-of-room
 
-pub put-byte-spec : {M : Type 1} → statement M
-put-byte-spec = tie.close (tie.spec slice-write-out same-length returns returns-2)
+pub put-spec : {M : Type 1} → statement M
+put-spec = tie.close (tie.spec mul-out slice-write-out same-length returns returns-2)

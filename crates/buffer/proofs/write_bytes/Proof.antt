@@ -3,19 +3,22 @@
 use borrow.Author.Needs.{needs}
 use Prim.Native.Nat.{_-_}
 use mathlib.Core.Path.{_≡_}
+use mathlib.Core.List.{List}
 use lib.ListN.{length}
 use lib.Seq.{sets}
 use native.Mathlib.Nat.{sub-zero}
+use Rattle.book.specs.declared.dose.Dose.{Dose}
 use Rattle.book.specs.Book.{placesFrom}
-use Rattle.book.specs.Doses.{dosesOf, doses, numbersOf}
-use Rattle.book.proofs.BufferLaws as laws
-use Rattle.book.proofs.buffer.write.Statement.{statement}
-use Rattle.book.proofs.buffer.write.Tie as tie
+use Rattle.book.specs.Doses.{dosesOf, doses}
+use Rattle.buffer.specs.Buffer.{numbersOf, bytesPerDose, numberBytes}
+use Rattle.buffer.proofs.BufferLaws as laws
+use Rattle.buffer.proofs.write_bytes.Statement.{statement}
+use Rattle.buffer.proofs.write_bytes.Tie as tie
 
 abbrev Inv-loop : tie.InvT-loop
 Inv-loop book out₀ at₀ i₀ out at i =
-    (sets out₀ 0 (numbersOf (doses book))
-    ≡ sets out i (numbersOf (dosesOf book (placesFrom book (length book - at) at))))
+    (sets out₀ 0 (numberBytes (numbersOf (doses book)))
+    ≡ sets out i (numberBytes (numbersOf (dosesOf book (placesFrom book (length book - at) at)))))
     × (length out ≡ length out₀)
 
 abbrev μ-loop : tie.MeasureT-loop
@@ -30,11 +33,17 @@ same-length c = search needs
 returns : tie.Need-returns Inv-loop μ-loop
 returns c = search laws.full
 
-record-end-requires : tie.Need-record-end-requires Inv-loop μ-loop
-record-end-requires c κs = search needs
+shared-slice-read-kind : tie.Need-shared-slice-read-kind Inv-loop μ-loop
+shared-slice-read-kind c = search needs
 
-shared-slice-read-is-weighed : tie.Need-shared-slice-read-is-weighed Inv-loop μ-loop
-shared-slice-read-is-weighed c = search needs
+add-at : tie.Need-add-at Inv-loop μ-loop
+add-at c = search needs
+
+body-size-requires : tie.Need-body-size-requires Inv-loop μ-loop
+body-size-requires c κs = search needs
+
+add-at-2 : tie.Need-add-at-2 Inv-loop μ-loop
+add-at-2 c = search needs
 
 is-weighed-requires : tie.Need-is-weighed-requires Inv-loop μ-loop
 is-weighed-requires c κs = search needs
@@ -42,8 +51,8 @@ is-weighed-requires c κs = search needs
 at-requires : tie.Need-at-requires Inv-loop μ-loop
 at-requires c κs = search needs
 
-put-dose-requires : tie.Need-put-dose-requires Inv-loop μ-loop
-put-dose-requires c κs = search needs
+put-dose-bytes-requires : tie.Need-put-dose-bytes-requires Inv-loop μ-loop
+put-dose-bytes-requires c κs = search needs
 
 add-i : tie.Need-add-i Inv-loop μ-loop
 add-i c = search needs
@@ -52,22 +61,23 @@ loop-less : tie.Need-loop-less Inv-loop μ-loop
 loop-less c = search needs
 
 loop-again : tie.Need-loop-again Inv-loop μ-loop
-loop-again c = (search (laws.turn-weighed numbersOf 2 laws.numbers-more), search needs)
+loop-again c =
+    (search (laws.turn-weighed (λ (ds : List Dose). numberBytes (numbersOf ds)) bytesPerDose laws.bytes-more), search needs)
 
 loop-less-2 : tie.Need-loop-less-2 Inv-loop μ-loop
 loop-less-2 c = search needs
 
 loop-again-2 : tie.Need-loop-again-2 Inv-loop μ-loop
-loop-again-2 c = (search (laws.turn-remark numbersOf), search needs)
+loop-again-2 c = (search (laws.turn-remark (λ (ds : List Dose). numberBytes (numbersOf ds))), search needs)
 
 same-length-2 : tie.Need-same-length-2 Inv-loop μ-loop
 same-length-2 c = search needs
 
 returns-2 : tie.Need-returns-2 Inv-loop μ-loop
-returns-2 c = search (laws.done numbersOf laws.numbers-none)
+returns-2 c = search (laws.done (λ (ds : List Dose). numberBytes (numbersOf ds)) laws.bytes-none)
 
-pub write-spec : {M : Type 1} → statement M
-write-spec =
+pub write-bytes-spec : {M : Type 1} → statement M
+write-bytes-spec =
     tie.close
     (tie.spec
     Inv-loop
@@ -75,11 +85,13 @@ write-spec =
     loop-holds
     same-length
     returns
-    record-end-requires
-    shared-slice-read-is-weighed
+    shared-slice-read-kind
+    add-at
+    body-size-requires
+    add-at-2
     is-weighed-requires
     at-requires
-    put-dose-requires
+    put-dose-bytes-requires
     add-i
     loop-less
     loop-again

@@ -1,9 +1,9 @@
 -- The two stores, one behind the other.
 -- Assumes nothing.
-use Rattle.book.proofs.BufferLaws as laws
+use Rattle.buffer.proofs.BufferLaws as laws
 use borrow.Author.Needs.{needs}
-use Rattle.book.proofs.buffer.put_dose.Statement.{statement}
-use Rattle.book.proofs.buffer.put_dose.Tie as tie
+use Rattle.buffer.proofs.put_dose.Statement.{statement}
+use Rattle.buffer.proofs.put_dose.Tie as tie
 
 cast-put : tie.Need-cast-put
 cast-put c = search needs

@@ -1,9 +1,9 @@
 -- The four stores, one behind the other; at once where the buffer has all four bytes.
 -- Assumes nothing.
-use Rattle.book.proofs.BufferLaws as laws
+use Rattle.buffer.proofs.BufferLaws as laws
 use borrow.Author.Needs.{needs}
-use Rattle.book.proofs.buffer.put_number.Statement.{statement}
-use Rattle.book.proofs.buffer.put_number.Tie as tie
+use Rattle.buffer.proofs.put_number.Statement.{statement}
+use Rattle.buffer.proofs.put_number.Tie as tie
 
 add-end : tie.Need-add-end
 add-end c = search needs

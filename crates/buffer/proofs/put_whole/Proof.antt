@@ -3,10 +3,10 @@
 use mathlib.Core.Path.{refl}
 use native.Mathlib.Omega.{arith}
 use lib.ListN.{length-set}
-use Rattle.book.proofs.BufferLaws as laws
+use Rattle.buffer.proofs.BufferLaws as laws
 use borrow.Author.Needs.{needs}
-use Rattle.book.proofs.buffer.put_whole.Statement.{statement}
-use Rattle.book.proofs.buffer.put_whole.Tie as tie
+use Rattle.buffer.proofs.put_whole.Statement.{statement}
+use Rattle.buffer.proofs.put_whole.Tie as tie
 
 cast-out : tie.Need-cast-out
 cast-out c = search needs

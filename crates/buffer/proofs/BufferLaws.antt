@@ -10,11 +10,13 @@ use lib.Seq.{sets, sets-eq, set-out}
 use native.Mathlib.Nat.{add-zero}
 use native.Mathlib.Numerals.{add-one}
 use native.Mathlib.Omega.{arith}
 use Rattle.book.specs.declared.dose.Dose.{Dose}
-use Rattle.book.specs.Kinds.{isWeighed}
-use Rattle.book.specs.Book.{kindAt, recordEnd, placesFrom, doseAt}
-use Rattle.book.specs.Doses.{dosesOf, numbersPerDose, numbersOf, bytesOf, numberBytes}
+use Rattle.book.specs.Kinds.{isWeighed, bodySize}
+use Rattle.book.specs.Book.{kindAt, placesFrom, doseAt}
+use Rattle.book.specs.Doses.{dosesOf}
+use Rattle.book.proofs.PlaceLaws.{end-of}
 use Rattle.book.proofs.RecordsLaws.{weighed, remark, no-doses}
+use Rattle.buffer.specs.Buffer.{numbersPerDose, numbersOf, bytesPerNumber, bytesPerDose, bytesOf, numberBytes}
 
 pub out-of-room : (out : List ℕ) (i n : ℕ) → length out ≤ i → out ≡ set out i n
 out-of-room out i n h = sym (set-out out i n h)
@@ -44,7 +46,7 @@ four-bytes out i n p q r s =
     s ∙ rw (r, q, p, g, f, add-one)
 
 pub eight-bytes : (out : List ℕ) (i : ℕ) (dose : Dose) {o₁ o₂ : List ℕ} → o₁ ≡ sets out i (bytesOf (dose .oxide .0))
-    → o₂ ≡ sets o₁ (i + 4) (bytesOf (dose .milligrams .0)) → o₂ ≡ sets out i (numberBytes (numbersOf (dose ∷ [])))
+    → o₂ ≡ sets o₁ (i + bytesPerNumber) (bytesOf (dose .milligrams .0)) → o₂ ≡ sets out i (numberBytes (numbersOf (dose ∷ [])))
 unfolding numbersOf numberBytes
 eight-bytes out i dose p q =
     q ∙ rw p (sym (sets-append out i (bytesOf (dose .oxide .0)) (bytesOf (dose .milligrams .0))))
@@ -55,7 +57,7 @@ unfolding numbersOf
 numbers-none = refl
 
 pub numbers-more : (out : List ℕ) (i : ℕ) (dose : Dose) (rest : List Dose)
-    → sets out i (numbersOf (dose ∷ rest)) ≡ sets (sets out i (numbersOf (dose ∷ []))) (i + 2) (numbersOf rest)
+    → sets out i (numbersOf (dose ∷ rest)) ≡ sets (sets out i (numbersOf (dose ∷ []))) (i + numbersPerDose) (numbersOf rest)
 unfolding numbersOf
 numbers-more out i dose rest = sets-append out i (numbersOf (dose ∷ [])) (numbersOf rest)
 
@@ -65,29 +67,29 @@ bytes-none = refl
 
 pub bytes-more : (out : List ℕ) (i : ℕ) (dose : Dose) (rest : List Dose)
     → sets out i (numberBytes (numbersOf (dose ∷ rest)))
-    ≡ sets (sets out i (numberBytes (numbersOf (dose ∷ [])))) (i + 8) (numberBytes (numbersOf rest))
+    ≡ sets (sets out i (numberBytes (numbersOf (dose ∷ [])))) (i + bytesPerDose) (numberBytes (numbersOf rest))
 unfolding numbersOf numberBytes
 bytes-more out i dose rest = sets-append out i (numberBytes (numbersOf (dose ∷ []))) (numberBytes (numbersOf rest))
 
 -- a turn of a walk that spells the doses in either way: v is what the buffer is to be, and that is what it is now, with
 -- the doses that are left from i on
 module _ (spell : List Dose → List ℕ) where
-  pub turn-remark : (b out : List ℕ) (at i : ℕ) {end : ℕ} {w : Bool} {v : List ℕ} → at < length b
+  pub turn-remark : (b out : List ℕ) (at i : ℕ) {size : ℕ} {w : Bool} {v : List ℕ} → at < length b
       → v ≡ sets out i (spell (dosesOf b (placesFrom b (length b - at) at)))
-      → end ≡ recordEnd b at → w ≡ isWeighed (kindAt b at) → w ≡ false
-      → v ≡ sets out i (spell (dosesOf b (placesFrom b (length b - end) end)))
-  turn-remark b out at i l inv e h k = inv ∙ rw (remark b at l e h k)
+      → size ≡ bodySize (kindAt b at) → w ≡ isWeighed (kindAt b at) → w ≡ false
+      → v ≡ sets out i (spell (dosesOf b (placesFrom b (length b - (at + 1 + size)) (at + 1 + size))))
+  turn-remark b out at i l inv e h k = inv ∙ rw (remark b at l (end-of b at e) h k)
 
   pub turn-weighed : (width : ℕ)
       → ((out : List ℕ) (i : ℕ) (dose : Dose) (rest : List Dose)
       → sets out i (spell (dose ∷ rest)) ≡ sets (sets out i (spell (dose ∷ []))) (i + width) (spell rest))
-      → (b out : List ℕ) (at i : ℕ) {end : ℕ} {w : Bool} {dose : Dose} {v after : List ℕ} → at < length b
+      → (b out : List ℕ) (at i : ℕ) {size : ℕ} {w : Bool} {dose : Dose} {v after : List ℕ} → at < length b
       → v ≡ sets out i (spell (dosesOf b (placesFrom b (length b - at) at)))
-      → end ≡ recordEnd b at → w ≡ isWeighed (kindAt b at) → w ≡ true → dose ≡ doseAt b at
+      → size ≡ bodySize (kindAt b at) → w ≡ isWeighed (kindAt b at) → w ≡ true → dose ≡ doseAt b at
       → after ≡ sets out i (spell (dose ∷ []))
-      → v ≡ sets after (i + width) (spell (dosesOf b (placesFrom b (length b - end) end)))
+      → v ≡ sets after (i + width) (spell (dosesOf b (placesFrom b (length b - (at + 1 + size)) (at + 1 + size))))
   turn-weighed width more b out at i {dose = dose} l inv e h k d g =
-      rw g (inv ∙ rw (weighed b at l e h k d) (more out i dose _))
+      rw g (inv ∙ rw (weighed b at l (end-of b at e) h k d) (more out i dose _))
 
   pub done : (spell [] ≡ []) → (b out : List ℕ) (at i : ℕ) {v : List ℕ}
       → v ≡ sets out i (spell (dosesOf b (placesFrom b (length b - at) at))) → length b ≤ at → out ≡ v
@@ -102,7 +104,7 @@ unfolding numbersOf
 numbers-room [] = refl
 numbers-room (dose ∷ rest) = let k = numbers-room rest in omega arith
 
-pub bytes-room : (ns : List ℕ) → length (numberBytes ns) ≡ 4 * length ns
+pub bytes-room : (ns : List ℕ) → length (numberBytes ns) ≡ bytesPerNumber * length ns
 unfolding numberBytes
 bytes-room [] = refl
 bytes-room (n ∷ rest) = let k = bytes-room rest in omega arith
