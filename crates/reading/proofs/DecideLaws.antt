@@ -22,7 +22,7 @@ use Rattle.reading.specs.declared.Decided.the-variants.{Accepted, Refuse
 use Rattle.reading.specs.Editions.{editionOf}
 use Rattle.reading.specs.Reading.{editionCheck, bookIn, bookOf, openedCheck, checksAt, readingCheck, readAnswer}
 use Rattle.reading.specs.Weighings.{weighingAs}
-use Rattle.reading.specs.Buffers.{afterAs, leftIn, ReadInto, decidedAs, decided}
+use Rattle.reading.specs.Buffers.{afterAs, Form, roomIn, put, leftIn, ReadInto, decidedAs, decided}
 
 weighed : (v : Verdict) (n : ℕ) {count : ℕ} → weighingAs v n ≡ weighing.Doses count → (v ≡ Pass) × (n ≡ count)
 weighed Pass n h = (refl, cc)
@@ -110,22 +110,21 @@ module _ (edition : ℕ) (s : List ℕ) (room : ℕ) {d : Decided} (p : d ≡ de
       rw (j .0) (k ∙ ap (λ (x : List ℕ). with′ x before) (e ∙ ap (bookIn s) (sym (j .2))))
 
 -- the whole promise of a reading
-module _ (room : List ℕ → ℕ) (put : List ℕ → List ℕ → List ℕ) (edition : ℕ) (s before : List ℕ) {d : Decided}
-    (p : d ≡ decided edition s (room before)) where
+module _ (form : Form) (edition : ℕ) (s before : List ℕ) {d : Decided} (p : d ≡ decided edition s (roomIn form before)) where
   pub read-refused : {number place : ℕ} → d ≡ Refused number place
-      → ReadInto room put edition s before (answer.Refused number place) before
+      → ReadInto form edition s before (answer.Refused number place) before
   unfolding leftIn
   read-refused h =
       record {
-        answered = refused-answer edition s (room before) p h;
-        buffer = refused-buffer edition s (room before) p before (put (bookOf s) before) h;
+        answered = refused-answer edition s (roomIn form before) p h;
+        buffer = refused-buffer edition s (roomIn form before) p before (put form (bookOf s) before) h;
       }
 
   pub read-accepted : {count : ℕ} {header : Section} {b after : List ℕ} → d ≡ Accepted count header → b ≡ bookIn s header
-      → after ≡ put b before → ReadInto room put edition s before (answer.Done count) after
+      → after ≡ put form b before → ReadInto form edition s before (answer.Done count) after
   unfolding leftIn
   read-accepted h e k =
       record {
-        answered = accepted-answer edition s (room before) p h;
-        buffer = accepted-buffer edition s (room before) p before put h e k;
+        answered = accepted-answer edition s (roomIn form before) p h;
+        buffer = accepted-buffer edition s (roomIn form before) p before (put form) h e k;
       }

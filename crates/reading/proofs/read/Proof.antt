@@ -1,6 +1,5 @@
 -- What was decided gives the answer, and what is written then the buffer. Assumes nothing.
-use Rattle.book.specs.Doses.{withDoses}
-use lib.ListN.{length}
+use Rattle.reading.specs.Buffers.{Form}
 use Rattle.reading.proofs.DecideLaws as laws
 use borrow.Author.Needs.{needs}
 use Rattle.reading.proofs.read.Statement.{statement}
@@ -22,13 +21,13 @@ write-requires : tie.Need-write-requires
 write-requires c κs = search needs
 
 returns : tie.Need-returns
-returns c = laws.read-refused length withDoses _ _ _ (search) (c .before .found .given .1)
+returns c = laws.read-refused Form.Numbers _ _ _ (search) (c .before .found .given .1)
 
 same-length : tie.Need-same-length
 same-length c = search needs
 
 returns-2 : tie.Need-returns-2
-returns-2 c = laws.read-accepted length withDoses _ _ _ (search) (c .before .before .before .before .before .before .found2 .given .1) (c .before .before .before .before .book-part .ensures) (c .before .before .write .ensures)
+returns-2 c = laws.read-accepted Form.Numbers _ _ _ (search) (c .before .before .before .before .before .before .found2 .given .1) (c .before .before .before .before .book-part .ensures) (c .before .before .write .ensures)
 
 pub read-spec : {M : Type 1} → statement M
 read-spec =

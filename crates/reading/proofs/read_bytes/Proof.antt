@@ -1,6 +1,5 @@
 -- What was decided gives the answer, and what is written then the buffer. Assumes nothing.
-use Rattle.book.specs.Doses.{withDoseBytes}
-use Rattle.reading.specs.Buffers.{numbersIn}
+use Rattle.reading.specs.Buffers.{Form}
 use Rattle.reading.proofs.DecideLaws as laws
 use borrow.Author.Needs.{needs}
 use Rattle.reading.proofs.read_bytes.Statement.{statement}
@@ -22,13 +21,13 @@ write-bytes-requires : tie.Need-write-bytes-requires
 write-bytes-requires c κs = search needs
 
 returns : tie.Need-returns
-returns c = laws.read-refused numbersIn withDoseBytes _ _ _ (search) (c .before .found .given .1)
+returns c = laws.read-refused Form.Bytes _ _ _ (search) (c .before .found .given .1)
 
 same-length : tie.Need-same-length
 same-length c = search needs
 
 returns-2 : tie.Need-returns-2
-returns-2 c = laws.read-accepted numbersIn withDoseBytes _ _ _ (search) (c .before .before .before .before .before .before .found2 .given .1) (c .before .before .before .before .book-part .ensures) (c .before .before .write-bytes .ensures)
+returns-2 c = laws.read-accepted Form.Bytes _ _ _ (search) (c .before .before .before .before .before .before .found2 .given .1) (c .before .before .before .before .book-part .ensures) (c .before .before .write-bytes .ensures)
 
 pub read-bytes-spec : {M : Type 1} → statement M
 read-bytes-spec =
