@@ -1,7 +1,7 @@
 -- Demand 2: the checks of an edition block by block (rules-lawful, part-lawful), together (checks-lawful), and demand2.
 use Prim.Native.Nat.{ℕ, _-_, _≤_}
 use mathlib.Core.Path.{_≡_}
-use mathlib.Core.Logic.{_↔_, Iff·trans}
+use mathlib.Core.Logic.{_↔_, Iff·rfl, Iff·trans}
 use mathlib.Core.List.{List}
 use mathlib.Core.Bool.{true}
 use lib.ListN.{length}
@@ -18,11 +18,12 @@ use Rattle.book.specs.Doses.{doses, sumOf}
 use Rattle.reading.specs.Editions.{Edition, editionOf, batchTag, hasBatch}
 use Rattle.reading.specs.Reading.{editionCheck, bookOf, needed, roomCheck, bookPart, openedCheck, checksAt}
 use Rattle.reading.specs.Reading.{readingCheck}
+use Rattle.reading.specs.Buffers.{roomIn}
 use Rattle.demands.specs.Lawful.{WhereTagged, LawfulLead, LawfulStructure, LawfulLines}
 use Rattle.demands.specs.Lawful.{LawfulGroups, LawfulTexts, LawfulBook, LawfulPackage}
 use Rattle.demands.specs.Demands.{Demand2}
 use Rattle.reading.proofs.AnswerLaws.{done}
-use Rattle.demands.proofs.PassIff.{check-iff, last-iff, both-iff, then-iff}
+use Rattle.demands.proofs.PassIff.{check-iff, last-iff, both-iff, then-iff, leb-iff}
 use Rattle.demands.proofs.PackageLawful.{sound-lawful}
 use Rattle.demands.proofs.FoundLawful.{Apart}
 use Rattle.demands.proofs.LineLawful.{lines-lawful}
@@ -59,40 +60,40 @@ module _ (edition : Edition) (s : List ℕ) where
       then-iff _ _ (groups-lawful s (signatureAt s) (headerAt s) header states) λ groups.
       texts-lawful s (headerAt s) header (directories-there s (signatureAt s) (headerAt s) groups)
 
-  room-passes : (room : ℕ) → needed (bookOf s) ≤ room → roomCheck room (bookOf s) ≡ Pass
+  room-lawful : (room : ℕ) → (roomCheck room (bookOf s) ≡ Pass) ↔ (needed (bookOf s) ≤ room)
   unfolding roomCheck
-  room-passes room fits = last-iff _ _ _ .1 (le-leb _ _ fits)
+  room-lawful room = simp (last-iff, leb-iff) Iff·rfl
 
-  -- 19 to 24, with room for the doses
-  part-lawful : (room : ℕ) → needed (bookOf s) ≤ room → Apart s (headerAt s) → LawfulLines edition s
+  -- 19 to 24
+  part-lawful : (room : ℕ) → Apart s (headerAt s) → LawfulLines edition s
       → (bookPart edition s (headerAt s) room (bookOf s) ≡ Pass)
-      ↔ (LawfulBook (edition .known) (bookOf s) × (Batch edition s × Unit {0}))
+      ↔ (LawfulBook (edition .known) (bookOf s) × (Batch edition s × (needed (bookOf s) ≤ room)))
   unfolding bookPart
-  part-lawful room fits header lines =
+  part-lawful room header lines =
       let sum = sumOf (doses (bookOf s)) in
       then-iff _ _ (book-lawful (edition .known) (bookOf s)) λ book.
       then-iff _ _ (batch-lawful edition s (headerAt s) sum header (batch-there edition s lines)) λ batch.
-      (λ h. tt, λ h. room-passes room fits)
+      room-lawful room
 
   -- 2 to 24
-  abbrev Blocks : Type 0
-  Blocks =
+  abbrev Blocks : ℕ → Type 0
+  Blocks room =
       ((length s ≤ packageLimit) × (leadSize ≤ length s) × LawfulLead s × LawfulStructure s leadSize
       × LawfulStructure s (headerStart (signatureAt s)))
       × ((LawfulLines edition s
       × (Payload s × (LawfulGroups s (signatureAt s) (headerAt s) × LawfulTexts s (headerAt s))))
-      × (LawfulBook (edition .known) (bookOf s) × (Batch edition s × Unit {0})))
+      × (LawfulBook (edition .known) (bookOf s) × (Batch edition s × (needed (bookOf s) ≤ room))))
 
-  blocks-lawful : Keeps edition → (room : ℕ) → needed (bookOf s) ≤ room → (checksAt edition s room ≡ Pass) ↔ Blocks
+  blocks-lawful : Keeps edition → (room : ℕ) → (checksAt edition s room ≡ Pass) ↔ Blocks room
   unfolding checksAt openedCheck
-  blocks-lawful keeps room fits =
+  blocks-lawful keeps room =
       then-iff _ _ (sound-lawful s) λ sound.
       then-iff _ _ (rules-lawful keeps (sound .3 .tags) (sound .4 .tags)) λ rules.
-      part-lawful room fits (sound .4 .tags) (rules .0)
+      part-lawful room (sound .4 .tags) (rules .0)
 
-  package-lawful : Blocks ↔ LawfulPackage edition s
-  package-lawful = (
-    λ (sound, (rules, part)).
+  package-lawful : (room : ℕ) → Blocks room ↔ (LawfulPackage edition s × (needed (bookOf s) ≤ room))
+  package-lawful room = (
+    λ (sound, (rules, part)). (
         record {
           most = sound .0;
           least = sound .1;
@@ -106,17 +107,18 @@ module _ (edition : Edition) (s : List ℕ) where
           book = part .0;
           batch = part .1 .0;
         },
-    λ r. (
+        part .1 .1,
+    ),
+    λ (r, fits). (
       (r .most, r .least, r .lead, r .signature, r .header),
-      ((r .lines, (r .payload, (r .groups, r .texts))), (r .book, (r .batch, tt))),
+      ((r .lines, (r .payload, (r .groups, r .texts))), (r .book, (r .batch, fits))),
     ),
   )
 
 -- of any edition that has edition 1's lines
-pub checks-lawful : (edition : Edition) → Keeps edition → (s : List ℕ) (room : ℕ) → needed (bookOf s) ≤ room
-    → (checksAt edition s room ≡ Pass) ↔ LawfulPackage edition s
-checks-lawful edition keeps s room fits =
-    Iff·trans (blocks-lawful edition s keeps room fits) (package-lawful edition s)
+pub checks-lawful : (edition : Edition) → Keeps edition → (s : List ℕ) (room : ℕ)
+    → (checksAt edition s room ≡ Pass) ↔ (LawfulPackage edition s × (needed (bookOf s) ≤ room))
+checks-lawful edition keeps s room = Iff·trans (blocks-lawful edition s keeps room) (package-lawful edition s room)
 
 -- 1
 edition-passes : (edition : ℕ) → 1 ≤ edition → edition ≤ 2 → editionCheck edition ≡ Pass
@@ -128,8 +130,8 @@ lines-kept edition l line h = le-leb (line .status) edition (let k = leb-true (l
 
 pub demand2 : Demand2
 unfolding readingCheck
-demand2 edition s before l m fits =
-    let checks = checks-lawful (editionOf edition) (lines-kept edition l) s (length before) fits in (
+demand2 form edition s before l m =
+    let checks = checks-lawful (editionOf edition) (lines-kept edition l) s (roomIn form before) in (
       λ h. checks .0 (both-iff _ _ .0 (done _ _ h .0) .1),
       λ r. rw (both-iff _ _ .1 (edition-passes edition l m, checks .1 r)),
     )
