@@ -18,7 +18,7 @@ use Rattle.entries.specs.Entries.{recordAt, dataEnd}
 use Rattle.index.specs.Lookup.{entryOf, taggedIn, entryFor}
 use Rattle.tags.specs.Tags.{isPresent, countOf, has, countIn, numberAt, numberIn}
 use Rattle.texts.specs.Texts.{entryIn}
-use Rattle.demands.specs.Lawful.{HasTag, WhereTagged, HasCount, SameCount, DataIs}
+use Rattle.demands.specs.Lawful.{HasTag, WhereTagged, HasCount, SameCount, NumberIs, DataIs}
 use Rattle.demands.proofs.TagLawful.{tagged-absent, has-tag, where-absent, where-present}
 
 -- no two records of a structure share a tag
@@ -51,8 +51,7 @@ module _ (s : List ℕ) (section : Section) (apart : Apart s section) (tag : ℕ
       (λ e. f (entryOf section e (dataEnd s section e))) (inl none)
 
   pub number-iff : (n : ℕ) → HasTag s section tag
-      → (numberIn s section tag ≡ n)
-      ↔ WhereTagged s section tag (λ (e : IndexRecord). be32At s (inFile section (e .offset)) ≡ n)
+      → (numberIn s section tag ≡ n) ↔ NumberIs s section tag n
   number-iff n h =
       found-iff (λ (t : Tagged). numberAt s section t ≡ n)
       (λ (e : IndexRecord). be32At s (inFile section (e .offset)) ≡ n) (λ e k. Iff·rfl) (inr h)

@@ -10,7 +10,7 @@ use Rattle.be.specs.Numbers.{be16At, be32At}
 use Rattle.format.specs.declared.places.Section.{Section}
 use Rattle.format.specs.declared.records.IndexRecord.{IndexRecord}
 use Rattle.format.specs.Sizes.{packageLimit, leadSize}
-use Rattle.format.specs.Places.{inFile}
+use Rattle.format.specs.Places.{sectionEnd, inFile}
 use Rattle.format.specs.Records.{headerRecordAt}
 use Rattle.entries.specs.declared.types.ElementSize.the-variants.{Bytes, ToZero}
 use Rattle.index.specs.declared.Entry.{Entry}
@@ -19,7 +19,6 @@ use Rattle.entries.specs.Entries.{recordAt}
 use Rattle.structure.specs.Structure.{sectionAt}
 use Rattle.structure.specs.Sound.{SoundHeader}
 use Rattle.index.specs.Lookup.{entryAt}
-use Rattle.package.specs.Package.{headerStart, signatureAt, headerAt}
 use Rattle.catalogue.specs.declared.Line.{Line}
 use Rattle.catalogue.specs.Catalogue.{lineAt, signatureCount, lineCount}
 use Rattle.groups.specs.Groups.{fileTags}
@@ -28,7 +27,7 @@ use Rattle.book.specs.Kinds.{isWeighed}
 use Rattle.book.specs.Book.{bookLimit, kindAt, recordEnd, places, doseAt}
 use Rattle.book.specs.Doses.{doses, sumOf}
 use Rattle.reading.specs.Editions.{Edition, batchTag, hasBatch}
-use Rattle.reading.specs.Reading.{bookOf}
+use Rattle.reading.specs.Reading.{bookIn}
 
 -- "Lead": bytes 0-3 are ED AB EE DB; 4 is 3; 5 is 0; 6-7 (type) are 0; 10-75 (name) hold at least one zero byte; 76-77
 -- (system) are 1; 78-79 (signature type) are 5
@@ -89,10 +88,10 @@ pub record LawfulLine (s : List ℕ) (section : Section) (line : Line) : Type 0 
   pub type′ : WhereTagged s section (line .tag) (λ (e : IndexRecord). e .ty ≡ line .ty)
   pub count : line .count ≢ 0 → HasCount s section (line .tag) (line .count)
 
-abbrev pub LawfulLines : Edition → List ℕ → Type 0
-LawfulLines edition s =
-    ((i : ℕ) → i < signatureCount → (edition .hasLine) (lineAt i) ≡ true → LawfulLine s (signatureAt s) (lineAt i))
-    × ((i : ℕ) → signatureCount ≤ i → i < lineCount → (edition .hasLine) (lineAt i) ≡ true → LawfulLine s (headerAt s) (lineAt i))
+abbrev pub LawfulLines : Edition → List ℕ → Section → Section → Type 0
+LawfulLines edition s signature header =
+    ((i : ℕ) → i < signatureCount → (edition .hasLine) (lineAt i) ≡ true → LawfulLine s signature (lineAt i))
+    × ((i : ℕ) → signatureCount ≤ i → i < lineCount → (edition .hasLine) (lineAt i) ≡ true → LawfulLine s header (lineAt i))
 
 -- "Groups": one tag needs another
 abbrev pub Needs : List ℕ → Section → ℕ → ℕ → Type 0
@@ -174,21 +173,32 @@ pub record LawfulBook (known : ℕ → Bool) (b : List ℕ) : Type 0 where
   pub size : length b ≤ bookLimit
   pub records : (i : ℕ) → i < length (places b) → LawfulBookRecord known b (getD (places b) i 0)
 
+-- the first multiple of a number at or after a place
+pub record FirstMultiple (n place start : ℕ) : Type 0 where
+  pub multiple : start % n ≡ 0
+  pub after : place ≤ start
+  pub first : (other : ℕ) → other % n ≡ 0 → place ≤ other → start ≤ other
+
+-- the 32-bit number of every record that has a tag
+abbrev pub NumberIs : List ℕ → Section → ℕ → ℕ → Type 0
+NumberIs s section tag n = WhereTagged s section tag (λ (e : IndexRecord). be32At s (inFile section (e .offset)) ≡ n)
+
 -- a right package at an edition
 pub record LawfulPackage (edition : Edition) (s : List ℕ) : Type 0 where
   pub most : length s ≤ packageLimit
   pub least : leadSize ≤ length s
   pub lead : LawfulLead s
+  -- the signature structure starts at S = 96
   pub signature : LawfulStructure s leadSize
-  pub header : LawfulStructure s (headerStart (signatureAt s))
-  pub lines : LawfulLines edition s
+  -- the header structure starts at H, the first multiple of 8 at or after the signature's end
+  pub H : ℕ
+  pub place : FirstMultiple 8 (sectionEnd (sectionAt s leadSize)) H
+  pub header : LawfulStructure s H
+  pub lines : LawfulLines edition s (sectionAt s leadSize) (sectionAt s H)
   -- the signature's 1000 is length − H
-  pub payload : WhereTagged s (signatureAt s) 1000
-      (λ (e : IndexRecord). be32At s (inFile (signatureAt s) (e .offset)) ≡ length s - headerStart (signatureAt s))
-  pub groups : LawfulGroups s (signatureAt s) (headerAt s)
-  pub texts : LawfulTexts s (headerAt s)
-  pub book : LawfulBook (edition .known) (bookOf s)
+  pub payload : NumberIs s (sectionAt s leadSize) 1000 (length s - H)
+  pub groups : LawfulGroups s (sectionAt s leadSize) (sectionAt s H)
+  pub texts : LawfulTexts s (sectionAt s H)
+  pub book : LawfulBook (edition .known) (bookIn s (sectionAt s H))
   -- where the edition has the batch weight's line, the doses' sum equals its value
-  pub batch : hasBatch edition ≡ true
-      → WhereTagged s (headerAt s) batchTag
-      (λ (e : IndexRecord). be32At s (inFile (headerAt s) (e .offset)) ≡ sumOf (doses (bookOf s)))
+  pub batch : hasBatch edition ≡ true → NumberIs s (sectionAt s H) batchTag (sumOf (doses (bookIn s (sectionAt s H))))
