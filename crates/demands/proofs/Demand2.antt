@@ -26,7 +26,7 @@ use Rattle.demands.proofs.PassIff.{check-iff, last-iff, both-iff, then-
 use Rattle.demands.proofs.PackageLawful.{sound-lawful}
 use Rattle.demands.proofs.FoundLawful.{Apart}
 use Rattle.demands.proofs.LineLawful.{lines-lawful}
-use Rattle.demands.proofs.NumberLawful.{Keeps, size-there, states-there, batch-there}
+use Rattle.demands.proofs.NumberLawful.{Keeps, size-there, states-there, batch-there, text-lines}
 use Rattle.demands.proofs.NumberLawful.{size-lawful, batch-lawful}
 use Rattle.demands.proofs.GroupLawful.{groups-lawful, directories-there}
 use Rattle.demands.proofs.TextLawful.{texts-lawful}
@@ -58,10 +58,11 @@ module _ (edition : Edition) (s : List ℕ) where
       × (needed (bookOf s) ≤ room))
 
   -- 14 to 18
-  rules-lawful : (start : ℕ) → Keeps edition → Apart s (signatureAt s) → Apart s (sectionAt s start)
+  rules-lawful : (start : ℕ) → Keeps edition → Apart s (signatureAt s) → LawfulStructure s start
       → (rulesCheck (edition .hasLine) s (length s) (signatureAt s) (sectionAt s start) ≡ Pass) ↔ Ruled start
   unfolding rulesCheck
-  rules-lawful start keeps apart apart′ =
+  rules-lawful start keeps apart lawful =
+      let apart′ = lawful .tags in
       let signature = signatureAt s in
       let header = sectionAt s start in
       then-iff _ _ (lines-lawful edition s signature header apart apart′) λ lines.
@@ -69,7 +70,8 @@ module _ (edition : Edition) (s : List ℕ) where
       let states = states-there edition s signature header lines keeps in
       then-iff _ _ (size-lawful s (length s) signature header apart size) λ payload.
       then-iff _ _ (groups-lawful s signature header apart′ states) λ groups.
-      texts-lawful s header apart′ (directories-there s signature header groups)
+      texts-lawful s start lawful (text-lines edition s signature header lines keeps)
+      (directories-there s signature header groups)
 
   room-lawful : (room : ℕ) → (roomCheck room (bookOf s) ≡ Pass) ↔ (needed (bookOf s) ≤ room)
   unfolding roomCheck
@@ -100,7 +102,7 @@ module _ (edition : Edition) (s : List ℕ) where
   unfolding checksAt openedCheck
   blocks-lawful keeps room =
       then-iff _ _ (sound-lawful s) λ sound.
-      then-iff _ _ (rules-lawful H keeps (sound .3 .tags) (sound .4 .tags)) λ rules.
+      then-iff _ _ (rules-lawful H keeps (sound .3 .tags) (sound .4)) λ rules.
       part-lawful room (sound .4 .tags) (rules .0)
 
   blocks-package : (room : ℕ) → Blocks room H → LawfulPackage edition s

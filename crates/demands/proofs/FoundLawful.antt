@@ -1,7 +1,7 @@
--- What is asked of the record that a look-up by tag finds, as a rule for every record that has the tag: found-iff; its
--- data: data-iff; its number: number-iff; its count: count-iff, counted-iff, below-count-iff, same-count-iff.
+-- What is asked of the record that a look-up by tag finds, as a rule for every record that has the tag: record-iff,
+-- found-iff; its number: number-iff; its count: count-iff, counted-iff, below-count-iff, same-count-iff.
 use Prim.Native.Nat.{ℕ, _<_}
-use mathlib.Core.Path.{_≡_, refl}
+use mathlib.Core.Path.{_≡_, refl, sym, subst}
 use mathlib.Core.Logic.{_↔_, Iff·rfl, _≢_, _⊎_, inl, inr, ⊎-elim}
 use mathlib.Core.List.{List}
 use mathlib.Core.Bool.{true, false≢true}
@@ -9,17 +9,13 @@ use Rattle.be.specs.Numbers.{be32At}
 use Rattle.format.specs.declared.places.Section.{Section}
 use Rattle.format.specs.declared.records.IndexRecord.{IndexRecord}
 use Rattle.format.specs.Places.{inFile}
-use Rattle.index.specs.declared.Entry.{Entry}
-use Rattle.index.specs.declared.Found.{Found}
-use Rattle.index.specs.declared.Found.the-variants.{At, Nothing}
 use Rattle.index.specs.declared.Tagged.{Tagged}
 use Rattle.index.specs.declared.Tagged.the-variants.{Present, Absent}
-use Rattle.entries.specs.Entries.{recordAt, dataEnd}
-use Rattle.index.specs.Lookup.{entryOf, taggedIn, entryFor}
+use Rattle.entries.specs.Entries.{recordAt}
+use Rattle.index.specs.Lookup.{taggedIn}
 use Rattle.tags.specs.Tags.{isPresent, countOf, has, countIn, numberAt, numberIn}
-use Rattle.texts.specs.Texts.{entryIn}
-use Rattle.demands.specs.Lawful.{HasTag, WhereTagged, HasCount, SameCount, NumberIs, DataIs}
-use Rattle.demands.proofs.TagLawful.{tagged-absent, has-tag, where-absent, where-present}
+use Rattle.demands.specs.Lawful.{HasTag, WhereTagged, HasCount, SameCount, NumberIs}
+use Rattle.demands.proofs.TagLawful.{tagged-record, tagged-absent, where-absent, where-present}
 
 -- no two records of a structure share a tag
 abbrev pub Apart : List ℕ → Section → Type 0
@@ -27,28 +23,28 @@ Apart s section = (i j : ℕ) → i < section .nindex → j < i → recordAt s s
 
 module _ (s : List ℕ) (section : Section) (apart : Apart s section) (tag : ℕ) where
   -- where nothing is found the rule says nothing: what is asked then holds, or the tag is there
-  pub found-iff : (Asked : Tagged → Type 0) (Rule : IndexRecord → Type 0)
-      → ((e : IndexRecord) → HasTag s section tag → Asked (Present e) ↔ Rule e)
+  pub record-iff : (Asked : Tagged → Type 0) (Rule : IndexRecord → Type 0)
+      → ((i : ℕ) → i < section .nindex → recordAt s section i .tag ≡ tag
+      → Asked (Present (recordAt s section i)) ↔ Rule (recordAt s section i))
       → Asked Absent ⊎ HasTag s section tag → Asked (taggedIn s section tag) ↔ WhereTagged s section tag Rule
-  found-iff Asked Rule f none = go (taggedIn s section tag) refl
+  record-iff Asked Rule f none = go (taggedIn s section tag) refl
     where
       go : (found : Tagged) → taggedIn s section tag ≡ found → Asked found ↔ WhereTagged s section tag Rule
       go (Present e) q =
           let w = where-present s section tag apart Rule e q in
-          let there = has-tag s section tag .0 (rw q) in
-          (λ h. w .1 (f e there .0 h), λ h. f e there .1 (w .0 h))
+          let r = tagged-record s section tag e q in
+          let g : Asked (Present e) ↔ Rule e =
+          subst (λ (x : IndexRecord). Asked (Present x) ↔ Rule x) (sym (r .3)) (f (r .0) (r .1) (r .2)) in
+          (λ h. w .1 (g .0 h), λ h. g .1 (w .0 h))
       go Absent q = (
         λ h. where-absent s section tag Rule q,
         λ h. ⊎-elim (λ a. a) (λ r. absurd (tagged-absent s section tag q (r .0) (r .1) (r .2))) none,
       )
 
-  pub data-iff : (Asked : Found → Type 0) (Rule : Entry → Type 0)
-      → ((entry : Entry) → HasTag s section tag → Asked (At entry) ↔ Rule entry)
-      → Asked Nothing → Asked (entryIn s section tag) ↔ DataIs s section tag Rule
-  data-iff Asked Rule f none =
-      found-iff (λ (t : Tagged). Asked (entryFor s section t))
-      (λ (e : IndexRecord). Rule (entryOf section e (dataEnd s section e)))
-      (λ e. f (entryOf section e (dataEnd s section e))) (inl none)
+  pub found-iff : (Asked : Tagged → Type 0) (Rule : IndexRecord → Type 0)
+      → ((e : IndexRecord) → HasTag s section tag → Asked (Present e) ↔ Rule e)
+      → Asked Absent ⊎ HasTag s section tag → Asked (taggedIn s section tag) ↔ WhereTagged s section tag Rule
+  found-iff Asked Rule f none = record-iff Asked Rule (λ i l t. f (recordAt s section i) (i, l, t)) none
 
   pub number-iff : (n : ℕ) → HasTag s section tag
       → (numberIn s section tag ≡ n) ↔ NumberIs s section tag n

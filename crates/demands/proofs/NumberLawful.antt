@@ -1,19 +1,20 @@
--- Tags that the lines require are present: size-there, states-there, batch-there. Checks 16 and 23, of the numbers that
--- such tags hold, pass exactly as the rules say: size-lawful, batch-lawful.
-use Prim.Native.Nat.{ℕ, _-_}
+-- Tags that the lines require are present: size-there, states-there, batch-there; those of check 18 are strings:
+-- text-lines. Checks 16 and 23, of the numbers that tags hold, pass exactly as the rules say: size-lawful, batch-lawful.
+use Prim.Native.Nat.{ℕ, _-_, _≤_, _<_}
 use mathlib.Core.Path.{_≡_, refl}
 use mathlib.Core.Logic.{_↔_, Iff·rfl}
 use mathlib.Core.List.{List}
 use mathlib.Core.Bool.{true}
 use native.Mathlib.Omega.{arith}
 use Rattle.format.specs.declared.places.Section.{Section}
+use Rattle.format.specs.declared.records.IndexRecord.{IndexRecord}
 use Rattle.format.specs.declared.verdict.Verdict.the-variants.{Pass}
 use Rattle.catalogue.specs.declared.Line.{Line}
 use Rattle.catalogue.specs.Catalogue.{signatureLines, headerLines, catalogue, lineAt, inEdition}
 use Rattle.rules.specs.Rules.{sizeTagCheck}
 use Rattle.reading.specs.Editions.{Edition, batchTag, batchLine, hasBatch}
 use Rattle.reading.specs.Reading.{sumCheck}
-use Rattle.demands.specs.Lawful.{HasTag, NumberIs, LawfulLines}
+use Rattle.demands.specs.Lawful.{HasTag, WhereTagged, HasCount, NumberIs, LawfulLine, LawfulLines}
 use Rattle.demands.proofs.PassIff.{last-iff, eqb-iff, cond-iff}
 use Rattle.demands.proofs.FoundLawful.{Apart, number-iff}
 
@@ -21,7 +22,19 @@ use Rattle.demands.proofs.FoundLawful.{Apart, number-iff}
 abbrev pub Keeps : Edition → Type 0
 Keeps edition = (line : Line) → inEdition 1 line ≡ true → (edition .hasLine) line ≡ true
 
--- lines 3, 34 and 81 of the catalogue
+-- the tags of check 18 as the catalogue has them
+abbrev pub OneString : List ℕ → Section → ℕ → Type 0
+OneString s header tag = WhereTagged s header tag (λ (e : IndexRecord). e .ty ≡ 6) × HasCount s header tag 1
+
+pub record TextLines (s : List ℕ) (header : Section) : Type 0 where
+  pub system : OneString s header 1021
+  pub preInstall : OneString s header 1085
+  pub postInstall : OneString s header 1086
+  pub preRemove : OneString s header 1087
+  pub postRemove : OneString s header 1088
+  pub directories : WhereTagged s header 1118 (λ (e : IndexRecord). e .ty ≡ 8)
+
+-- by their numbers in the catalogue
 module _ (edition : Edition) (s : List ℕ) (signature header : Section) (lines : LawfulLines edition s signature header) where
   pub size-there : Keeps edition → HasTag s signature 1000
   unfolding lineAt catalogue signatureLines headerLines
@@ -34,6 +47,20 @@ module _ (edition : Edition) (s : List ℕ) (signature header : Section) (lines 
   pub batch-there : hasBatch edition ≡ true → HasTag s header batchTag
   unfolding lineAt catalogue signatureLines headerLines
   batch-there h = lines .1 batchLine (omega arith) (omega arith) h .required (omega arith)
+
+  pub text-lines : Keeps edition → TextLines s header
+  unfolding lineAt catalogue signatureLines headerLines
+  text-lines keeps =
+      let line : (i : ℕ) → 11 ≤ i → i < 82 → inEdition 1 (lineAt i) ≡ true → LawfulLine s header (lineAt i) =
+      λ i l m h. lines .1 i l m (keeps (lineAt i) h) in
+      record {
+        system = let k = line 27 (omega arith) (omega arith) refl in (k .type′, k .count (λ e. omega arith));
+        preInstall = let k = line 57 (omega arith) (omega arith) refl in (k .type′, k .count (λ e. omega arith));
+        postInstall = let k = line 58 (omega arith) (omega arith) refl in (k .type′, k .count (λ e. omega arith));
+        preRemove = let k = line 59 (omega arith) (omega arith) refl in (k .type′, k .count (λ e. omega arith));
+        postRemove = let k = line 60 (omega arith) (omega arith) refl in (k .type′, k .count (λ e. omega arith));
+        directories = line 72 (omega arith) (omega arith) refl .type′;
+      }
 
 -- 16
 pub size-lawful : (s : List ℕ) (len : ℕ) (signature header : Section) → Apart s signature → HasTag s signature 1000

@@ -1,4 +1,4 @@
--- Checks 5 to 13 of a structure are what the rules say of it: structure-lawful.
+-- Checks 5 to 13 of a structure are what the rules say of it: structure-lawful; of one record: record-passes.
 use Prim.Native.Nat.{ℕ, zero, suc, _+_, _<_}
 use mathlib.Core.Path.{_≡_, refl, sym, ap, _∙_}
 use mathlib.Core.Logic.{_↔_, _≢_}
@@ -72,7 +72,7 @@ module _ (s : List ℕ) (start : ℕ) where
         tags = λ i j l. entry-lawful s (sectionAt s start) i .0 (structure-record s (length s) start h i l) .1 j;
       }
 
-  record-passes : LawfulStructure s start → (i : ℕ) → i < sectionAt s start .nindex
+  pub record-passes : LawfulStructure s start → (i : ℕ) → i < sectionAt s start .nindex
       → recordCheck s (sectionAt s start) i ≡ Pass
   record-passes h i l = entry-lawful s (sectionAt s start) i .1 (h .records i l, λ j m. h .tags i j l m)
 

@@ -111,10 +111,10 @@ Demand3 =
 
 -- Demand 3 of a call that reads at both editions
 pub record ReadBothInto (form : Form) (s before before′ : List ℕ) (first second : Answer) (after after′ : List ℕ) : Type 0
-    where
-  pub atFirst : ReadInto form 1 s before first after
-  pub atSecond : ReadInto form 2 s before′ second after′
-  pub agree : before ≡ before′ → EditionsAgree s first second after after′
+  where
+    pub atFirst : ReadInto form 1 s before first after
+    pub atSecond : ReadInto form 2 s before′ second after′
+    pub agree : before ≡ before′ → EditionsAgree s first second after after′
 
 abbrev pub ReadBoth : List ℕ → List ℕ → List ℕ → Answer → Answer → List ℕ → List ℕ → Type 0
 ReadBoth = ReadBothInto Numbers
