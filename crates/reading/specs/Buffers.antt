@@ -3,14 +3,10 @@ use Prim.Native.Nat.{ℕ, _/_}
 use mathlib.Core.Path.{_≡_}
 use mathlib.Core.List.{List}
 use lib.ListN.{length}
-use Rattle.format.specs.declared.places.Section.{Section}
 use Rattle.format.specs.declared.verdict.Verdict.{Verdict}
 use Rattle.format.specs.declared.verdict.Verdict.the-variants.{Pass, Fail}
 use Rattle.format.specs.declared.verdict.Answer.{Answer}
-use Rattle.package.specs.Package.{headerAt}
-use Rattle.book.specs.Doses.{doses, numberBytes, withDoses, withDoseBytes}
-use Rattle.reading.specs.declared.Decided.{Decided}
-use Rattle.reading.specs.declared.Decided.the-variants.{Accepted, Refused}
+use Rattle.book.specs.Doses.{numberBytes, withDoses, withDoseBytes}
 use Rattle.reading.specs.Reading.{bookOf, readingCheck, readAnswer}
 
 -- a refused reading changes nothing; an accepted one puts its doses at the front
@@ -60,11 +56,3 @@ numbersIn = roomIn Bytes
 
 abbrev pub bytesAfter : ℕ → List ℕ → List ℕ → List ℕ
 bytesAfter = leftIn Bytes
-
--- what is decided before anything is written: the dose count and the header, or the refusal
-abbrev pub decidedAs : Verdict → ℕ → Section → Decided
-decidedAs Pass count header = Accepted count header
-decidedAs (Fail number place) count header = Refused number place
-
-unfoldable pub decided : ℕ → List ℕ → ℕ → Decided
-decided edition s room = decidedAs (readingCheck edition s room) (length (doses (bookOf s))) (headerAt s)
