@@ -81,14 +81,14 @@ module _ (edition : Edition) (s : List ℕ) where
   H = headerStart (signatureAt s)
 
   -- 19 to 24
-  part-lawful : (room : ℕ) → Apart s (headerAt s) → LawfulLines edition s (signatureAt s) (headerAt s)
+  part-lawful : (room : ℕ) → LawfulStructure s H → LawfulLines edition s (signatureAt s) (headerAt s)
       → (bookPart edition s (headerAt s) room (bookOf s) ≡ Pass) ↔ Weighed room H
   unfolding bookPart
-  part-lawful room apart lines =
+  part-lawful room lawful lines =
       let sum = sumOf (doses (bookOf s)) in
       let there = batch-there edition s (signatureAt s) (headerAt s) lines in
       then-iff _ _ (book-lawful (edition .known) (bookOf s)) λ book.
-      then-iff _ _ (batch-lawful edition s (headerAt s) sum apart there) λ batch.
+      then-iff _ _ (batch-lawful s H lawful edition sum there) λ batch.
       room-lawful room
 
   -- 2 to 24
@@ -103,7 +103,7 @@ module _ (edition : Edition) (s : List ℕ) where
   blocks-lawful keeps room =
       then-iff _ _ (sound-lawful s) λ sound.
       then-iff _ _ (rules-lawful H keeps (sound .3 .tags) (sound .4)) λ rules.
-      part-lawful room (sound .4 .tags) (rules .0)
+      part-lawful room (sound .4) (rules .0)
 
   blocks-package : (room : ℕ) → Blocks room H → LawfulPackage edition s
   blocks-package room (sound, (rules, part)) =

@@ -1,10 +1,11 @@
 -- What is asked of the record that a look-up by tag finds, as a rule for every record that has the tag: record-iff,
--- found-iff; its number: number-iff; its count: count-iff, counted-iff, below-count-iff, same-count-iff.
+-- found-iff; the record with a type too: typed-found; its number: number-iff; its count: count-iff, counted-iff, below-count-iff, same-count-iff.
 use Prim.Native.Nat.{ℕ, _<_}
-use mathlib.Core.Path.{_≡_, refl, sym, subst}
+use mathlib.Core.Path.{_≡_, refl, sym, ap, subst, _∙_}
 use mathlib.Core.Logic.{_↔_, Iff·rfl, _≢_, _⊎_, inl, inr, ⊎-elim}
 use mathlib.Core.List.{List}
 use mathlib.Core.Bool.{true, false≢true}
+use native.Mathlib.Omega.{arith}
 use Rattle.be.specs.Numbers.{be32At}
 use Rattle.format.specs.declared.places.Section.{Section}
 use Rattle.format.specs.declared.records.IndexRecord.{IndexRecord}
@@ -12,10 +13,13 @@ use Rattle.format.specs.Places.{inFile}
 use Rattle.index.specs.declared.Tagged.{Tagged}
 use Rattle.index.specs.declared.Tagged.the-variants.{Present, Absent}
 use Rattle.entries.specs.Entries.{recordAt}
-use Rattle.index.specs.Lookup.{taggedIn}
+use Rattle.index.specs.declared.Found.the-variants.{At}
+use Rattle.index.specs.Lookup.{entryAt, findIn, taggedIn}
+use Rattle.structure.proofs.SoundLaws.{found-record, record-found}
+use Rattle.structure.proofs.TagLaws.{for-true, true-for}
 use Rattle.tags.specs.Tags.{isPresent, countOf, has, countIn, numberAt, numberIn}
 use Rattle.demands.specs.Lawful.{HasTag, WhereTagged, HasCount, SameCount, NumberIs}
-use Rattle.demands.proofs.TagLawful.{tagged-record, tagged-absent, where-absent, where-present}
+use Rattle.demands.proofs.TagLawful.{tagged-record, tagged-absent, same-record, where-absent, where-present}
 
 -- no two records of a structure share a tag
 abbrev pub Apart : List ℕ → Section → Type 0
@@ -51,6 +55,17 @@ module _ (s : List ℕ) (section : Section) (apart : Apart s section) (tag : ℕ
   number-iff n h =
       found-iff (λ (t : Tagged). numberAt s section t ≡ n)
       (λ (e : IndexRecord). be32At s (inFile section (e .offset)) ≡ n) (λ e k. Iff·rfl) (inr h)
+
+  -- a look-up by tag and type finds the record that has both
+  pub typed-found : (ty i : ℕ) → i < section .nindex → recordAt s section i .tag ≡ tag → recordAt s section i .ty ≡ ty
+      → findIn s section tag ty ≡ At (entryAt s section i)
+  typed-found ty i l t q =
+      let n = section .nindex in
+      let f = record-found s section tag ty n 0 i (omega arith) (omega arith) (true-for tag ty (recordAt s section i) t q) in
+      let g = found-record s section tag ty n 0 (f .0) (f .1) in
+      let w = for-true tag ty (recordAt s section (g .0)) (g .3) in
+      let e = same-record s section tag apart (g .0) i (omega arith) l (w .0 ∙ sym t) in
+      f .1 ∙ ap At (g .4 ∙ ap (entryAt s section) e)
 
   pub count-iff : (n : ℕ) → HasTag s section tag → (countIn s section tag ≡ n) ↔ HasCount s section tag n
   count-iff n h = found-iff (λ (t : Tagged). countOf t ≡ n) (λ (e : IndexRecord). e .count ≡ n) (λ e k. Iff·rfl) (inr h)

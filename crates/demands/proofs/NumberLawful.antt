@@ -1,22 +1,33 @@
 -- Tags that the lines require are present: size-there, states-there, batch-there; those of check 18 are strings:
 -- text-lines. Checks 16 and 23, of the numbers that tags hold, pass exactly as the rules say: size-lawful, batch-lawful.
-use Prim.Native.Nat.{ℕ, _-_, _≤_, _<_}
-use mathlib.Core.Path.{_≡_, refl}
+use Prim.Native.Nat.{ℕ, _+_, _-_, _≤_, _<_}
+use mathlib.Core.Path.{_≡_, refl, sym, ap, _∙_}
 use mathlib.Core.Logic.{_↔_, Iff·rfl}
 use mathlib.Core.List.{List}
 use mathlib.Core.Bool.{true}
+use lib.ListN.{getD, take, drop}
+use lib.Seq.{getD-take, getD-drop}
 use native.Mathlib.Omega.{arith}
+use Rattle.be.specs.Numbers.{be32At}
 use Rattle.format.specs.declared.places.Section.{Section}
 use Rattle.format.specs.declared.records.IndexRecord.{IndexRecord}
 use Rattle.format.specs.declared.verdict.Verdict.the-variants.{Pass}
+use Rattle.format.specs.Places.{inFile}
+use Rattle.entries.specs.Types.{elementSize}
+use Rattle.entries.specs.Entries.{recordAt}
+use Rattle.index.specs.declared.Found.{Found}
+use Rattle.index.specs.Lookup.{entryAt}
+use Rattle.structure.specs.Structure.{sectionAt}
+use Rattle.texts.specs.Texts.{foundBytes}
 use Rattle.catalogue.specs.declared.Line.{Line}
 use Rattle.catalogue.specs.Catalogue.{signatureLines, headerLines, catalogue, lineAt, inEdition}
 use Rattle.rules.specs.Rules.{sizeTagCheck}
 use Rattle.reading.specs.Editions.{Edition, batchTag, batchLine, hasBatch}
-use Rattle.reading.specs.Reading.{sumCheck}
-use Rattle.demands.specs.Lawful.{HasTag, WhereTagged, HasCount, NumberIs, LawfulLine, LawfulLines}
+use Rattle.reading.specs.Reading.{weightIn, sumCheck}
+use Rattle.demands.specs.Lawful.{HasTag, WhereTagged, HasCount, NumberIs, LawfulStructure, LawfulLine, LawfulLines}
 use Rattle.demands.proofs.PassIff.{last-iff, eqb-iff, cond-iff}
-use Rattle.demands.proofs.FoundLawful.{Apart, number-iff}
+use Rattle.demands.proofs.FoundLawful.{Apart, number-iff, typed-found}
+use Rattle.demands.proofs.StructureLawful.{entry-sound}
 
 -- an edition has the lines of edition 1
 abbrev pub Keeps : Edition → Type 0
@@ -34,6 +45,10 @@ pub record TextLines (s : List ℕ) (header : Section) : Type 0 where
   pub postRemove : OneString s header 1088
   pub directories : WhereTagged s header 1118 (λ (e : IndexRecord). e .ty ≡ 8)
 
+-- the batch weight's
+abbrev pub BatchLine : List ℕ → Section → Type 0
+BatchLine s header = HasTag s header batchTag × WhereTagged s header batchTag (λ (e : IndexRecord). e .ty ≡ 4)
+
 -- by their numbers in the catalogue
 module _ (edition : Edition) (s : List ℕ) (signature header : Section) (lines : LawfulLines edition s signature header) where
   pub size-there : Keeps edition → HasTag s signature 1000
@@ -44,9 +59,9 @@ module _ (edition : Edition) (s : List ℕ) (signature header : Section) (lines 
   unfolding lineAt catalogue signatureLines headerLines
   states-there keeps = lines .1 34 (omega arith) (omega arith) (keeps (lineAt 34) refl) .required (omega arith)
 
-  pub batch-there : hasBatch edition ≡ true → HasTag s header batchTag
+  pub batch-there : hasBatch edition ≡ true → BatchLine s header
   unfolding lineAt catalogue signatureLines headerLines
-  batch-there h = lines .1 batchLine (omega arith) (omega arith) h .required (omega arith)
+  batch-there h = let k = lines .1 batchLine (omega arith) (omega arith) h in (k .required (omega arith), k .type′)
 
   pub text-lines : Keeps edition → TextLines s header
   unfolding lineAt catalogue signatureLines headerLines
@@ -70,13 +85,42 @@ unfolding sizeTagCheck
 size-lawful s len signature header apart h = simp (last-iff, eqb-iff, number-iff s signature apart 1000) Iff·rfl
 
 -- 23
-pub batch-lawful : (edition : Edition) (s : List ℕ) (header : Section) (sum : ℕ) → Apart s header
-    → (hasBatch edition ≡ true → HasTag s header batchTag)
-    → (sumCheck edition s header sum ≡ Pass)
-    ↔ (hasBatch edition ≡ true → NumberIs s header batchTag sum)
-unfolding sumCheck
-batch-lawful edition s header sum apart led =
-    simp (cond-iff, last-iff, eqb-iff) (
-      λ h b. number-iff s header apart batchTag sum (led b) .0 (h b),
-      λ h b. number-iff s header apart batchTag sum (led b) .1 (h b),
-    )
+be32-part : (s : List ℕ) (at n : ℕ) → 4 ≤ n → be32At (take n (drop at s)) 0 ≡ be32At s at
+unfolding be32At
+be32-part s at n l = cc (byte 0 (omega arith), byte 1 (omega arith), byte 2 (omega arith), byte 3 (omega arith), first)
+  where
+    byte : (k : ℕ) → k < 4 → getD (take n (drop at s)) k 0 ≡ getD s (at + k) 0
+    byte k m = getD-take n (drop at s) k 0 (omega arith) ∙ getD-drop at s k 0
+
+    first : at + 0 ≡ at
+    first = omega arith
+
+module _ (s : List ℕ) (start : ℕ) (lawful : LawfulStructure s start) where
+  -- the number that a look-up shows is that of the record
+  shown-number : (i : ℕ) → i < sectionAt s start .nindex → recordAt s (sectionAt s start) i .tag ≡ batchTag
+      → recordAt s (sectionAt s start) i .ty ≡ 4
+      → weightIn s (sectionAt s start) ≡ be32At s (inFile (sectionAt s start) (recordAt s (sectionAt s start) i .offset))
+  unfolding elementSize
+  shown-number i l t q =
+      let header = sectionAt s start in
+      let entry = entryAt s header i in
+      let sound = entry-sound s start lawful i l in
+      let size = sound .fixed 4 (ap elementSize q) in
+      let some = sound .some in
+      ap (λ (f : Found). be32At (foundBytes s f) 0) (typed-found s header (lawful .tags) batchTag 4 i l t q)
+      ∙ be32-part s (entry .at .0) (entry .extent) (omega arith)
+
+  batch-number : (sum : ℕ) → BatchLine s (sectionAt s start)
+      → (weightIn s (sectionAt s start) ≡ sum) ↔ NumberIs s (sectionAt s start) batchTag sum
+  batch-number sum ((i, l, t), typed) = (
+    λ h j m u. sym (shown-number j m u (typed j m u)) ∙ h,
+    λ h. shown-number i l t (typed i l t) ∙ h i l t,
+  )
+
+  pub batch-lawful : (edition : Edition) (sum : ℕ) → (hasBatch edition ≡ true → BatchLine s (sectionAt s start))
+      → (sumCheck edition s (sectionAt s start) sum ≡ Pass)
+      ↔ (hasBatch edition ≡ true → NumberIs s (sectionAt s start) batchTag sum)
+  unfolding sumCheck
+  batch-lawful edition sum led =
+      simp (cond-iff, last-iff, eqb-iff)
+      (λ h b. batch-number sum (led b) .0 (h b), λ h b. batch-number sum (led b) .1 (h b))

@@ -25,14 +25,13 @@ use Rattle.index.specs.declared.Tagged.{Tagged}
 use Rattle.index.specs.Lookup.{entryAt, entryFor}
 use Rattle.structure.specs.Structure.{sectionAt}
 use Rattle.structure.specs.Sound.{SoundEntry}
-use Rattle.structure.proofs.SoundLaws.{record-sound}
 use Rattle.tags.specs.Tags.{countIn}
 use Rattle.texts.specs.Texts.{linux, binSh, foundText, textIs, allBelow, foundBelow, indexesBelow}
 use Rattle.texts.specs.Texts.{slashesEnd, foundSlashes, directoriesEnd, textsCheck}
 use Rattle.demands.specs.Lawful.{HasTag, WhereTagged, TextIs, Directories, LawfulTexts, LawfulStructure}
 use Rattle.demands.proofs.PassIff.{check-iff, eqb-iff, ltb-iff, cond-iff, not-iff}
 use Rattle.demands.proofs.FoundLawful.{Apart, record-iff, found-iff, below-count-iff}
-use Rattle.demands.proofs.StructureLawful.{record-passes}
+use Rattle.demands.proofs.StructureLawful.{entry-sound}
 use Rattle.demands.proofs.NumberLawful.{OneString, TextLines}
 use Rattle.demands.proofs.RowLawful.{SlashEnds, Whole, text-here, rows-lawful}
 
@@ -138,7 +137,7 @@ module _ (s : List ℕ) (start : ℕ) (lawful : LawfulStructure s start) where
     extent = entryAt s header i .extent
 
     sound : SoundEntry s (length s) (entryAt s header i)
-    sound = record-sound s (length s) header i (lawful .header .fits) (record-passes s start lawful i l)
+    sound = entry-sound s start lawful i l
 
     rows : (ty : ℕ) → elementSize ty ≡ ToZero → recordAt s header i .ty ≡ ty
         → stringsFrom s extent at (recordAt s header i .count) ≡ Ends (at + extent)
