@@ -7,30 +7,48 @@ use lib.Seq.{sets, sets-eq}
 use native.Mathlib.Omega.{arith}
 use Rattle.book.specs.declared.dose.Dose.{Dose}
 use Rattle.book.specs.Doses.{doses}
-use Rattle.buffer.specs.Buffer.{numbersOf}
+use Rattle.buffer.specs.Buffer.{numbersOf, numberBytes}
 use Rattle.reading.specs.Reading.{bookOf, readingCheck}
-use Rattle.reading.specs.Buffers.{leftIn}
-use Rattle.demands.specs.Demands.{RefusedKeeps, AcceptedWrites}
+use Rattle.reading.specs.Buffers.{Form, Numbers, Bytes, roomIn, cells, put, leftIn}
+use Rattle.demands.specs.Demands.{doseCells, RefusedKeeps, AcceptedWrites}
 use Rattle.reading.proofs.AnswerLaws.{done, refused, pass-room}
 
 pub refused-keeps : RefusedKeeps
 unfolding leftIn
-refused-keeps edition s before number place h = rw (refused (readingCheck edition s (length before)) (length (doses (bookOf s))) h)
+refused-keeps form edition s before number place h =
+    rw (refused (readingCheck edition s (roomIn form before)) (length (doses (bookOf s))) h)
 
 numbers-length : (l : List Dose) → length (numbersOf l) ≡ 2 * length l
 unfolding numbersOf
 numbers-length [] = refl
 numbers-length (d ∷ l) = let e = numbers-length l in omega arith
 
+bytes-length : (l : List ℕ) → length (numberBytes l) ≡ 4 * length l
+unfolding numberBytes
+bytes-length [] = refl
+bytes-length (n ∷ l) = let e = bytes-length l in omega arith
+
+-- a buffer with room for numbers has room for their cells
+cells-fit : (form : Form) (before numbers : List ℕ) → length numbers ≤ roomIn form before
+    → length (cells form numbers) ≤ length before
+cells-fit Numbers before numbers h = h
+cells-fit Bytes before numbers h = let e = bytes-length numbers in omega arith
+
 front : (before l : List ℕ) → length l ≤ length before → sets before 0 l ≡ l ++ drop (length l) before
 front before l h =
     let e : 0 + length l ≡ length l = omega arith in
     sets-eq l before 0 (omega arith) ∙ rw e
 
+-- doses that fit are written whole
+doses-put : (form : Form) (book before : List ℕ) → length (doseCells form book) ≤ length before
+    → put form book before ≡ doseCells form book ++ drop (length (doseCells form book)) before
+doses-put Numbers book before h = front before (doseCells Numbers book) h
+doses-put Bytes book before h = front before (doseCells Bytes book) h
+
 pub accepted-writes : AcceptedWrites
 unfolding leftIn
-accepted-writes edition s before count h =
-    let k = done (readingCheck edition s (length before)) (length (doses (bookOf s))) h in
-    let r = pass-room edition s (length before) (k .0) in
+accepted-writes form edition s before count h =
+    let k = done (readingCheck edition s (roomIn form before)) (length (doses (bookOf s))) h in
+    let r = pass-room edition s (roomIn form before) (k .0) in
     let n = numbers-length (doses (bookOf s)) in
-    (k .1, rw (k .0) (front before (numbersOf (doses (bookOf s))) (omega arith)))
+    (k .1, rw (k .0) (doses-put form (bookOf s) before (cells-fit form before (numbersOf (doses (bookOf s))) (omega arith))))

@@ -1,122 +1,145 @@
 -- Demand 2: the checks of an edition block by block (rules-lawful, part-lawful), together (checks-lawful), and demand2.
 use Prim.Native.Nat.{ℕ, _-_, _≤_}
-use mathlib.Core.Path.{_≡_}
-use mathlib.Core.Logic.{_↔_, Iff·trans}
+use mathlib.Core.Path.{_≡_, subst}
+use mathlib.Core.Logic.{_↔_, Iff·rfl, Iff·trans}
 use mathlib.Core.List.{List}
 use mathlib.Core.Bool.{true}
 use lib.ListN.{length}
 use native.Mathlib.Omega.{arith}
 use borrow.Author.Tests.{leb-true, le-leb}
-use Rattle.be.specs.Numbers.{be32At}
-use Rattle.format.specs.declared.records.IndexRecord.{IndexRecord}
 use Rattle.format.specs.declared.verdict.Verdict.the-variants.{Pass}
 use Rattle.format.specs.Sizes.{packageLimit, leadSize}
-use Rattle.format.specs.Places.{inFile}
-use Rattle.package.specs.Package.{headerStart, signatureAt, headerAt}
+use Rattle.format.specs.Places.{sectionEnd}
+use Rattle.structure.specs.Structure.{sectionAt}
+use Rattle.package.specs.Package.{alignUp, headerStart, signatureAt, headerAt}
 use Rattle.rules.specs.Rules.{rulesCheck}
 use Rattle.book.specs.Doses.{doses, sumOf}
 use Rattle.reading.specs.Editions.{Edition, editionOf, batchTag, hasBatch}
-use Rattle.reading.specs.Reading.{editionCheck, bookOf, needed, roomCheck, bookPart, openedCheck, checksAt}
+use Rattle.reading.specs.Reading.{editionCheck, bookIn, bookOf, needed, roomCheck, bookPart, openedCheck, checksAt}
 use Rattle.reading.specs.Reading.{readingCheck}
-use Rattle.demands.specs.Lawful.{WhereTagged, LawfulLead, LawfulStructure, LawfulLines}
+use Rattle.reading.specs.Buffers.{roomIn}
+use Rattle.demands.specs.Lawful.{NumberIs, FirstMultiple, LawfulLead, LawfulStructure, LawfulLines}
 use Rattle.demands.specs.Lawful.{LawfulGroups, LawfulTexts, LawfulBook, LawfulPackage}
 use Rattle.demands.specs.Demands.{Demand2}
 use Rattle.reading.proofs.AnswerLaws.{done}
-use Rattle.demands.proofs.PassIff.{check-iff, last-iff, both-iff, then-iff}
+use Rattle.demands.proofs.PassIff.{check-iff, last-iff, both-iff, then-iff, leb-iff}
 use Rattle.demands.proofs.PackageLawful.{sound-lawful}
 use Rattle.demands.proofs.FoundLawful.{Apart}
 use Rattle.demands.proofs.LineLawful.{lines-lawful}
-use Rattle.demands.proofs.NumberLawful.{Keeps, size-there, states-there, batch-there}
+use Rattle.demands.proofs.NumberLawful.{Keeps, size-there, states-there, batch-there, text-lines}
 use Rattle.demands.proofs.NumberLawful.{size-lawful, batch-lawful}
 use Rattle.demands.proofs.GroupLawful.{groups-lawful, directories-there}
 use Rattle.demands.proofs.TextLawful.{texts-lawful}
 use Rattle.demands.proofs.BookLawful.{book-lawful}
 
--- the rules of the two numbers, as LawfulPackage has them
-abbrev Payload : List ℕ → Type 0
-Payload s =
-    WhereTagged s (signatureAt s) 1000
-    (λ (e : IndexRecord). be32At s (inFile (signatureAt s) (e .offset)) ≡ length s - headerStart (signatureAt s))
+-- H is where the header starts
+start-first : (place : ℕ) → FirstMultiple 8 place (alignUp place)
+start-first place = record { multiple = omega arith; after = omega arith; first = λ other h l. omega arith }
 
-abbrev Batch : Edition → List ℕ → Type 0
-Batch edition s =
-    hasBatch edition ≡ true
-    → WhereTagged s (headerAt s) batchTag
-    (λ (e : IndexRecord). be32At s (inFile (headerAt s) (e .offset)) ≡ sumOf (doses (bookOf s)))
+start-only : (place start : ℕ) → FirstMultiple 8 place start → start ≡ alignUp place
+start-only place start f =
+    let a = f .multiple in
+    let b = f .after in
+    let c = f .first (alignUp place) (omega arith) (omega arith) in
+    omega arith
 
 module _ (edition : Edition) (s : List ℕ) where
+  -- a header that starts at a place: its rules, and those of the package
+  abbrev Ruled : ℕ → Type 0
+  Ruled start =
+      LawfulLines edition s (signatureAt s) (sectionAt s start)
+      × (NumberIs s (signatureAt s) 1000 (length s - start)
+      × (LawfulGroups s (signatureAt s) (sectionAt s start) × LawfulTexts s (sectionAt s start)))
+
+  abbrev Weighed : ℕ → ℕ → Type 0
+  Weighed room start =
+      LawfulBook (edition .known) (bookIn s (sectionAt s start))
+      × ((hasBatch edition ≡ true → NumberIs s (sectionAt s start) batchTag (sumOf (doses (bookIn s (sectionAt s start)))))
+      × (needed (bookOf s) ≤ room))
+
   -- 14 to 18
-  rules-lawful : Keeps edition → Apart s (signatureAt s) → Apart s (headerAt s)
-      → (rulesCheck (edition .hasLine) s (length s) (signatureAt s) (headerAt s) ≡ Pass)
-      ↔ (LawfulLines edition s
-      × (Payload s × (LawfulGroups s (signatureAt s) (headerAt s) × LawfulTexts s (headerAt s))))
+  rules-lawful : (start : ℕ) → Keeps edition → Apart s (signatureAt s) → LawfulStructure s start
+      → (rulesCheck (edition .hasLine) s (length s) (signatureAt s) (sectionAt s start) ≡ Pass) ↔ Ruled start
   unfolding rulesCheck
-  rules-lawful keeps signature header =
-      then-iff _ _ (lines-lawful edition s signature header) λ lines.
-      let size = size-there edition s lines keeps in
-      let states = states-there edition s lines keeps in
-      then-iff _ _ (size-lawful s (length s) (signatureAt s) (headerAt s) signature size) λ payload.
-      then-iff _ _ (groups-lawful s (signatureAt s) (headerAt s) header states) λ groups.
-      texts-lawful s (headerAt s) header (directories-there s (signatureAt s) (headerAt s) groups)
+  rules-lawful start keeps apart lawful =
+      let apart′ = lawful .tags in
+      let signature = signatureAt s in
+      let header = sectionAt s start in
+      then-iff _ _ (lines-lawful edition s signature header apart apart′) λ lines.
+      let size = size-there edition s signature header lines keeps in
+      let states = states-there edition s signature header lines keeps in
+      then-iff _ _ (size-lawful s (length s) signature header apart size) λ payload.
+      then-iff _ _ (groups-lawful s signature header apart′ states) λ groups.
+      texts-lawful s start lawful (text-lines edition s signature header lines keeps)
+      (directories-there s signature header groups)
 
-  room-passes : (room : ℕ) → needed (bookOf s) ≤ room → roomCheck room (bookOf s) ≡ Pass
+  room-lawful : (room : ℕ) → (roomCheck room (bookOf s) ≡ Pass) ↔ (needed (bookOf s) ≤ room)
   unfolding roomCheck
-  room-passes room fits = last-iff _ _ _ .1 (le-leb _ _ fits)
+  room-lawful room = simp (last-iff, leb-iff) Iff·rfl
 
-  -- 19 to 24, with room for the doses
-  part-lawful : (room : ℕ) → needed (bookOf s) ≤ room → Apart s (headerAt s) → LawfulLines edition s
-      → (bookPart edition s (headerAt s) room (bookOf s) ≡ Pass)
-      ↔ (LawfulBook (edition .known) (bookOf s) × (Batch edition s × Unit {0}))
+  abbrev H : ℕ
+  H = headerStart (signatureAt s)
+
+  -- 19 to 24
+  part-lawful : (room : ℕ) → LawfulStructure s H → LawfulLines edition s (signatureAt s) (headerAt s)
+      → (bookPart edition s (headerAt s) room (bookOf s) ≡ Pass) ↔ Weighed room H
   unfolding bookPart
-  part-lawful room fits header lines =
+  part-lawful room lawful lines =
       let sum = sumOf (doses (bookOf s)) in
+      let there = batch-there edition s (signatureAt s) (headerAt s) lines in
       then-iff _ _ (book-lawful (edition .known) (bookOf s)) λ book.
-      then-iff _ _ (batch-lawful edition s (headerAt s) sum header (batch-there edition s lines)) λ batch.
-      (λ h. tt, λ h. room-passes room fits)
+      then-iff _ _ (batch-lawful s H lawful edition sum there) λ batch.
+      room-lawful room
 
   -- 2 to 24
-  abbrev Blocks : Type 0
-  Blocks =
+  abbrev Blocks : ℕ → ℕ → Type 0
+  Blocks room start =
       ((length s ≤ packageLimit) × (leadSize ≤ length s) × LawfulLead s × LawfulStructure s leadSize
-      × LawfulStructure s (headerStart (signatureAt s)))
-      × ((LawfulLines edition s
-      × (Payload s × (LawfulGroups s (signatureAt s) (headerAt s) × LawfulTexts s (headerAt s))))
-      × (LawfulBook (edition .known) (bookOf s) × (Batch edition s × Unit {0})))
+      × LawfulStructure s start)
+      × (Ruled start × Weighed room start)
 
-  blocks-lawful : Keeps edition → (room : ℕ) → needed (bookOf s) ≤ room → (checksAt edition s room ≡ Pass) ↔ Blocks
+  blocks-lawful : Keeps edition → (room : ℕ) → (checksAt edition s room ≡ Pass) ↔ Blocks room H
   unfolding checksAt openedCheck
-  blocks-lawful keeps room fits =
+  blocks-lawful keeps room =
       then-iff _ _ (sound-lawful s) λ sound.
-      then-iff _ _ (rules-lawful keeps (sound .3 .tags) (sound .4 .tags)) λ rules.
-      part-lawful room fits (sound .4 .tags) (rules .0)
+      then-iff _ _ (rules-lawful H keeps (sound .3 .tags) (sound .4)) λ rules.
+      part-lawful room (sound .4) (rules .0)
 
-  package-lawful : Blocks ↔ LawfulPackage edition s
-  package-lawful = (
-    λ (sound, (rules, part)).
-        record {
-          most = sound .0;
-          least = sound .1;
-          lead = sound .2;
-          signature = sound .3;
-          header = sound .4;
-          lines = rules .0;
-          payload = rules .1 .0;
-          groups = rules .1 .1 .0;
-          texts = rules .1 .1 .1;
-          book = part .0;
-          batch = part .1 .0;
-        },
-    λ r. (
-      (r .most, r .least, r .lead, r .signature, r .header),
-      ((r .lines, (r .payload, (r .groups, r .texts))), (r .book, (r .batch, tt))),
-    ),
+  blocks-package : (room : ℕ) → Blocks room H → LawfulPackage edition s
+  blocks-package room (sound, (rules, part)) =
+      record {
+        most = sound .0;
+        least = sound .1;
+        lead = sound .2;
+        signature = sound .3;
+        H = H;
+        place = start-first (sectionEnd (signatureAt s));
+        header = sound .4;
+        lines = rules .0;
+        payload = rules .1 .0;
+        groups = rules .1 .1 .0;
+        texts = rules .1 .1 .1;
+        book = part .0;
+        batch = part .1 .0;
+      }
+
+  package-blocks : (room : ℕ) → needed (bookOf s) ≤ room → (r : LawfulPackage edition s) → Blocks room (r .H)
+  package-blocks room fits r = (
+    (r .most, r .least, r .lead, r .signature, r .header),
+    ((r .lines, (r .payload, (r .groups, r .texts))), (r .book, (r .batch, fits))),
+  )
+
+  package-lawful : (room : ℕ) → Blocks room H ↔ (LawfulPackage edition s × (needed (bookOf s) ≤ room))
+  package-lawful room = (
+    λ b. (blocks-package room b, b .1 .1 .1 .1),
+    λ (r, fits).
+        subst (Blocks room) (start-only (sectionEnd (signatureAt s)) (r .H) (r .place)) (package-blocks room fits r),
   )
 
 -- of any edition that has edition 1's lines
-pub checks-lawful : (edition : Edition) → Keeps edition → (s : List ℕ) (room : ℕ) → needed (bookOf s) ≤ room
-    → (checksAt edition s room ≡ Pass) ↔ LawfulPackage edition s
-checks-lawful edition keeps s room fits =
-    Iff·trans (blocks-lawful edition s keeps room fits) (package-lawful edition s)
+pub checks-lawful : (edition : Edition) → Keeps edition → (s : List ℕ) (room : ℕ)
+    → (checksAt edition s room ≡ Pass) ↔ (LawfulPackage edition s × (needed (bookOf s) ≤ room))
+checks-lawful edition keeps s room = Iff·trans (blocks-lawful edition s keeps room) (package-lawful edition s room)
 
 -- 1
 edition-passes : (edition : ℕ) → 1 ≤ edition → edition ≤ 2 → editionCheck edition ≡ Pass
@@ -128,8 +151,8 @@ lines-kept edition l line h = le-leb (line .status) edition (let k = leb-true (l
 
 pub demand2 : Demand2
 unfolding readingCheck
-demand2 edition s before l m fits =
-    let checks = checks-lawful (editionOf edition) (lines-kept edition l) s (length before) fits in (
+demand2 form edition s before l m =
+    let checks = checks-lawful (editionOf edition) (lines-kept edition l) s (roomIn form before) in (
       λ h. checks .0 (both-iff _ _ .0 (done _ _ h .0) .1),
       λ r. rw (both-iff _ _ .1 (edition-passes edition l m, checks .1 r)),
     )

@@ -19,7 +19,7 @@ use Rattle.book.specs.Kinds.{isKnown}
 use Rattle.book.specs.Doses.{doses}
 use Rattle.reading.specs.Editions.{Extends, editionOf, batchTag, oldOrBatch}
 use Rattle.reading.specs.Reading.{editionCheck, bookOf, checksAt, readingCheck, answerAs, readAnswer}
-use Rattle.reading.specs.Buffers.{bufferAfter, leftIn}
+use Rattle.reading.specs.Buffers.{Form, roomIn, leftIn}
 use Rattle.demands.specs.Demands.{Adds, ByAdded, VerdictsAgree, ByBatch, Demand3}
 use Rattle.reading.proofs.AnswerLaws.{done, refused}
 use Rattle.demands.proofs.EditionTheorems.{extending-agrees}
@@ -72,9 +72,9 @@ batch-answer v count (inl (i, a, inl h)) = inl (rw (h, added-tag i a))
 batch-answer v count (inl (i, a, inr h)) = inr (inl (rw (h, added-tag i a)))
 batch-answer v count (inr (a, h)) = inr (inr (rw h))
 
-module _ (s before : List ℕ) where
+module _ (form : Form) (s before : List ℕ) where
   abbrev room : ℕ
-  room = length before
+  room = roomIn form before
 
   abbrev count : ℕ
   count = length (doses (bookOf s))
@@ -91,7 +91,7 @@ module _ (s before : List ℕ) where
   first : (v : Verdict) → checksAt (editionOf 1) s room ≡ v → readAnswer 1 s room ≡ answerAs v count
   first v h = rw (at-1 s room ∙ h)
 
-  both-kept : checksAt (editionOf 1) s room ≡ Pass → checksAt (editionOf 2) s room ≡ Pass → bufferAfter 1 s before ≡ bufferAfter 2 s before
+  both-kept : checksAt (editionOf 1) s room ≡ Pass → checksAt (editionOf 2) s room ≡ Pass → leftIn form 1 s before ≡ leftIn form 2 s before
   unfolding leftIn
   both-kept h k = rw (at-1 s room ∙ h, at-2 s room ∙ k)
 
@@ -106,17 +106,17 @@ module _ (s before : List ℕ) where
   same-answer number (inr (inr a)) = inr (inr (by-batch a))
 
 pub demand3 : Demand3
-demand3 s before =
+demand3 form s before =
     record {
-      acceptedLacks = λ n place h f. first s before _ (agree s before .acceptedLacks place (accepts s before h .0) f);
+      acceptedLacks = λ n place h f. first form s before _ (agree form s before .acceptedLacks place (accepts form s before h .0) f);
       acceptedBoth = λ n h f.
-          let k = accepts s before h in
-          let p = agree s before .acceptedBoth (k .0) f in
-          (first s before Pass p ∙ ap Done (sym (k .1)), both-kept s before p (k .0));
+          let k = accepts form s before h in
+          let p = agree form s before .acceptedBoth (k .0) f in
+          (first form s before Pass p ∙ ap Done (sym (k .1)), both-kept form s before p (k .0));
       laterRefuses = λ n number place h f.
-          let p = sym (at-1 s (length before)) ∙ done (readingCheck 1 s (length before)) (length (doses (bookOf s))) h .0 in
-          by-batch s before (agree s before .laterRefuses number place p (refuses s before f));
+          let p = sym (at-1 s (roomIn form before)) ∙ done (readingCheck 1 s (roomIn form before)) (length (doses (bookOf s))) h .0 in
+          by-batch form s before (agree form s before .laterRefuses number place p (refuses form s before f));
       bothRefuse = λ number place number′ place′ h f.
-          let p = sym (at-1 s (length before)) ∙ refused (readingCheck 1 s (length before)) (length (doses (bookOf s))) h in
-          same-answer s before number (agree s before .bothRefuse number place number′ place′ p (refuses s before f));
+          let p = sym (at-1 s (roomIn form before)) ∙ refused (readingCheck 1 s (roomIn form before)) (length (doses (bookOf s))) h in
+          same-answer form s before number (agree form s before .bothRefuse number place number′ place′ p (refuses form s before f));
     }

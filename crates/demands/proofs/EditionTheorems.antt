@@ -14,13 +14,12 @@ use Rattle.format.specs.Verdicts.{check, both}
 use Rattle.format.proofs.VerdictLaws.{both-fail, both-inverted}
 use Rattle.package.specs.Package.{soundCheck, signatureAt, headerAt}
 use Rattle.catalogue.specs.Catalogue.{lineAt, signatureCount, lineCount}
-use Rattle.tags.specs.Tags.{numberIn}
 use Rattle.lines.specs.Lines.{linesFrom, linesCheck}
 use Rattle.rules.specs.Rules.{rulesCheck}
 use Rattle.book.specs.Book.{places, bookCheck}
 use Rattle.book.specs.Doses.{doses, sumOf}
 use Rattle.reading.specs.Editions.{Edition, Extends, hasBatch, batchTag, batchLine}
-use Rattle.reading.specs.Reading.{bookOf, sumCheck, bookPart, openedCheck, checksAt}
+use Rattle.reading.specs.Reading.{bookOf, weightIn, sumCheck, bookPart, openedCheck, checksAt}
 use Rattle.demands.specs.Demands.{First, NoneLacks, lackingIn, ByAdded, ExtendingAgrees}
 use Rattle.demands.proofs.AgreementLaws.{Agree, same-first, agree-both}
 use Rattle.demands.proofs.BookAgreement.{records-agree, passed-none}
@@ -70,7 +69,7 @@ module _ (earlier later : Edition) (extends : Extends earlier later) (b : List �
     sum-agrees : (header : Section) (sum : ℕ) → Alike earlier later b (sumCheck earlier s header sum) (sumCheck later s header sum)
     unfolding sumCheck check
     sum-agrees header sum =
-        go (hasBatch earlier) (hasBatch later) refl refl (extends .lines (lineAt batchLine)) (eqb (numberIn s header batchTag) sum)
+        go (hasBatch earlier) (hasBatch later) refl refl (extends .lines (lineAt batchLine)) (eqb (weightIn s header) sum)
       where
         go : (x y : Bool) → hasBatch earlier ≡ x → hasBatch later ≡ y → (hasBatch earlier ≡ true → hasBatch later ≡ true) → (ok : Bool)
             → Alike earlier later b (cond x (check ok 23 batchTag Pass) Pass) (cond y (check ok 23 batchTag Pass) Pass)

@@ -1,25 +1,25 @@
--- What is asked of the record that a look-up by tag finds, as a rule for every record that has the tag: found-iff; its
--- data: data-iff; its number: number-iff; its count: count-iff, counted-iff, below-count-iff, same-count-iff.
+-- What is asked of the record that a look-up by tag finds, as a rule for every record that has the tag: record-iff,
+-- found-iff; the record with a type too: typed-found; its number: number-iff; its count: count-iff, counted-iff, below-count-iff, same-count-iff.
 use Prim.Native.Nat.{ℕ, _<_}
-use mathlib.Core.Path.{_≡_, refl}
+use mathlib.Core.Path.{_≡_, refl, sym, ap, subst, _∙_}
 use mathlib.Core.Logic.{_↔_, Iff·rfl, _≢_, _⊎_, inl, inr, ⊎-elim}
 use mathlib.Core.List.{List}
 use mathlib.Core.Bool.{true, false≢true}
+use native.Mathlib.Omega.{arith}
 use Rattle.be.specs.Numbers.{be32At}
 use Rattle.format.specs.declared.places.Section.{Section}
 use Rattle.format.specs.declared.records.IndexRecord.{IndexRecord}
 use Rattle.format.specs.Places.{inFile}
-use Rattle.index.specs.declared.Entry.{Entry}
-use Rattle.index.specs.declared.Found.{Found}
-use Rattle.index.specs.declared.Found.the-variants.{At, Nothing}
 use Rattle.index.specs.declared.Tagged.{Tagged}
 use Rattle.index.specs.declared.Tagged.the-variants.{Present, Absent}
-use Rattle.entries.specs.Entries.{recordAt, dataEnd}
-use Rattle.index.specs.Lookup.{entryOf, taggedIn, entryFor}
+use Rattle.entries.specs.Entries.{recordAt}
+use Rattle.index.specs.declared.Found.the-variants.{At}
+use Rattle.index.specs.Lookup.{entryAt, findIn, taggedIn}
+use Rattle.structure.proofs.SoundLaws.{found-record, record-found}
+use Rattle.structure.proofs.TagLaws.{for-true, true-for}
 use Rattle.tags.specs.Tags.{isPresent, countOf, has, countIn, numberAt, numberIn}
-use Rattle.texts.specs.Texts.{entryIn}
-use Rattle.demands.specs.Lawful.{HasTag, WhereTagged, HasCount, SameCount, DataIs}
-use Rattle.demands.proofs.TagLawful.{tagged-absent, has-tag, where-absent, where-present}
+use Rattle.demands.specs.Lawful.{HasTag, WhereTagged, HasCount, SameCount, NumberIs}
+use Rattle.demands.proofs.TagLawful.{tagged-record, tagged-absent, same-record, where-absent, where-present}
 
 -- no two records of a structure share a tag
 abbrev pub Apart : List ℕ → Section → Type 0
@@ -27,35 +27,45 @@ Apart s section = (i j : ℕ) → i < section .nindex → j < i → recordAt s s
 
 module _ (s : List ℕ) (section : Section) (apart : Apart s section) (tag : ℕ) where
   -- where nothing is found the rule says nothing: what is asked then holds, or the tag is there
-  pub found-iff : (Asked : Tagged → Type 0) (Rule : IndexRecord → Type 0)
-      → ((e : IndexRecord) → HasTag s section tag → Asked (Present e) ↔ Rule e)
+  pub record-iff : (Asked : Tagged → Type 0) (Rule : IndexRecord → Type 0)
+      → ((i : ℕ) → i < section .nindex → recordAt s section i .tag ≡ tag
+      → Asked (Present (recordAt s section i)) ↔ Rule (recordAt s section i))
       → Asked Absent ⊎ HasTag s section tag → Asked (taggedIn s section tag) ↔ WhereTagged s section tag Rule
-  found-iff Asked Rule f none = go (taggedIn s section tag) refl
+  record-iff Asked Rule f none = go (taggedIn s section tag) refl
     where
       go : (found : Tagged) → taggedIn s section tag ≡ found → Asked found ↔ WhereTagged s section tag Rule
       go (Present e) q =
           let w = where-present s section tag apart Rule e q in
-          let there = has-tag s section tag .0 (rw q) in
-          (λ h. w .1 (f e there .0 h), λ h. f e there .1 (w .0 h))
+          let r = tagged-record s section tag e q in
+          let g : Asked (Present e) ↔ Rule e =
+          subst (λ (x : IndexRecord). Asked (Present x) ↔ Rule x) (sym (r .3)) (f (r .0) (r .1) (r .2)) in
+          (λ h. w .1 (g .0 h), λ h. g .1 (w .0 h))
       go Absent q = (
         λ h. where-absent s section tag Rule q,
         λ h. ⊎-elim (λ a. a) (λ r. absurd (tagged-absent s section tag q (r .0) (r .1) (r .2))) none,
       )
 
-  pub data-iff : (Asked : Found → Type 0) (Rule : Entry → Type 0)
-      → ((entry : Entry) → HasTag s section tag → Asked (At entry) ↔ Rule entry)
-      → Asked Nothing → Asked (entryIn s section tag) ↔ DataIs s section tag Rule
-  data-iff Asked Rule f none =
-      found-iff (λ (t : Tagged). Asked (entryFor s section t))
-      (λ (e : IndexRecord). Rule (entryOf section e (dataEnd s section e)))
-      (λ e. f (entryOf section e (dataEnd s section e))) (inl none)
+  pub found-iff : (Asked : Tagged → Type 0) (Rule : IndexRecord → Type 0)
+      → ((e : IndexRecord) → HasTag s section tag → Asked (Present e) ↔ Rule e)
+      → Asked Absent ⊎ HasTag s section tag → Asked (taggedIn s section tag) ↔ WhereTagged s section tag Rule
+  found-iff Asked Rule f none = record-iff Asked Rule (λ i l t. f (recordAt s section i) (i, l, t)) none
 
   pub number-iff : (n : ℕ) → HasTag s section tag
-      → (numberIn s section tag ≡ n)
-      ↔ WhereTagged s section tag (λ (e : IndexRecord). be32At s (inFile section (e .offset)) ≡ n)
+      → (numberIn s section tag ≡ n) ↔ NumberIs s section tag n
   number-iff n h =
       found-iff (λ (t : Tagged). numberAt s section t ≡ n)
       (λ (e : IndexRecord). be32At s (inFile section (e .offset)) ≡ n) (λ e k. Iff·rfl) (inr h)
+
+  -- a look-up by tag and type finds the record that has both
+  pub typed-found : (ty i : ℕ) → i < section .nindex → recordAt s section i .tag ≡ tag → recordAt s section i .ty ≡ ty
+      → findIn s section tag ty ≡ At (entryAt s section i)
+  typed-found ty i l t q =
+      let n = section .nindex in
+      let f = record-found s section tag ty n 0 i (omega arith) (omega arith) (true-for tag ty (recordAt s section i) t q) in
+      let g = found-record s section tag ty n 0 (f .0) (f .1) in
+      let w = for-true tag ty (recordAt s section (g .0)) (g .3) in
+      let e = same-record s section tag apart (g .0) i (omega arith) l (w .0 ∙ sym t) in
+      f .1 ∙ ap At (g .4 ∙ ap (entryAt s section) e)
 
   pub count-iff : (n : ℕ) → HasTag s section tag → (countIn s section tag ≡ n) ↔ HasCount s section tag n
   count-iff n h = found-iff (λ (t : Tagged). countOf t ≡ n) (λ (e : IndexRecord). e .count ≡ n) (λ e k. Iff·rfl) (inr h)

@@ -15,7 +15,6 @@ use Rattle.index.specs.declared.Tagged.the-variants.{Present, Absent}
 use Rattle.index.specs.Lookup.{taggedIn}
 use Rattle.catalogue.specs.declared.Line.{Line}
 use Rattle.catalogue.specs.Catalogue.{isAsLine, lineAt}
-use Rattle.package.specs.Package.{signatureAt, headerAt}
 use Rattle.lines.specs.Lines.{lineCheckAs, lineCheck, linesFrom, linesCheck}
 use Rattle.reading.specs.Editions.{Edition}
 use Rattle.demands.specs.Lawful.{LawfulLine, LawfulLines}
@@ -68,11 +67,11 @@ module _ (s : List ℕ) (section : Section) (apart : Apart s section) where
         λ h. (h i (omega arith) (omega arith), λ j l m. h j (omega arith) (omega arith)),
       )
 
-pub lines-lawful : (edition : Edition) (s : List ℕ) → Apart s (signatureAt s) → Apart s (headerAt s)
-    → (linesCheck (edition .hasLine) s (signatureAt s) (headerAt s) ≡ Pass) ↔ LawfulLines edition s
+pub lines-lawful : (edition : Edition) (s : List ℕ) (signature header : Section) → Apart s signature → Apart s header
+    → (linesCheck (edition .hasLine) s signature header ≡ Pass) ↔ LawfulLines edition s signature header
 unfolding linesCheck
-lines-lawful edition s signature header =
-    simp (both-iff, from-lawful s (signatureAt s) signature, from-lawful s (headerAt s) header) (
+lines-lawful edition s signature header apart apart′ =
+    simp (both-iff, from-lawful s signature apart, from-lawful s header apart′) (
       λ h. (λ i l. h .0 i (omega arith) (omega arith), λ i l m. h .1 i (omega arith) (omega arith)),
       λ h. (λ i l m. h .0 i (omega arith), λ i l m. h .1 i (omega arith) (omega arith)),
     )

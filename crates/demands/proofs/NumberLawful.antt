@@ -1,60 +1,126 @@
--- Tags that the lines require are present: size-there, states-there, batch-there. Checks 16 and 23, of the numbers that
--- such tags hold, pass exactly as the rules say: size-lawful, batch-lawful.
-use Prim.Native.Nat.{ℕ, _-_}
-use mathlib.Core.Path.{_≡_, refl}
+-- Tags that the lines require are present: size-there, states-there, batch-there; those of check 18 are strings:
+-- text-lines. Checks 16 and 23, of the numbers that tags hold, pass exactly as the rules say: size-lawful, batch-lawful.
+use Prim.Native.Nat.{ℕ, _+_, _-_, _≤_, _<_}
+use mathlib.Core.Path.{_≡_, refl, sym, ap, _∙_}
 use mathlib.Core.Logic.{_↔_, Iff·rfl}
 use mathlib.Core.List.{List}
 use mathlib.Core.Bool.{true}
+use lib.ListN.{getD, take, drop}
+use lib.Seq.{getD-take, getD-drop}
 use native.Mathlib.Omega.{arith}
 use Rattle.be.specs.Numbers.{be32At}
 use Rattle.format.specs.declared.places.Section.{Section}
 use Rattle.format.specs.declared.records.IndexRecord.{IndexRecord}
 use Rattle.format.specs.declared.verdict.Verdict.the-variants.{Pass}
 use Rattle.format.specs.Places.{inFile}
+use Rattle.entries.specs.Types.{elementSize}
+use Rattle.entries.specs.Entries.{recordAt}
+use Rattle.index.specs.declared.Found.{Found}
+use Rattle.index.specs.Lookup.{entryAt}
+use Rattle.structure.specs.Structure.{sectionAt}
+use Rattle.texts.specs.Texts.{foundBytes}
 use Rattle.catalogue.specs.declared.Line.{Line}
 use Rattle.catalogue.specs.Catalogue.{signatureLines, headerLines, catalogue, lineAt, inEdition}
-use Rattle.package.specs.Package.{signatureAt, headerAt}
 use Rattle.rules.specs.Rules.{sizeTagCheck}
 use Rattle.reading.specs.Editions.{Edition, batchTag, batchLine, hasBatch}
-use Rattle.reading.specs.Reading.{sumCheck}
-use Rattle.demands.specs.Lawful.{HasTag, WhereTagged, LawfulLines}
+use Rattle.reading.specs.Reading.{weightIn, sumCheck}
+use Rattle.demands.specs.Lawful.{HasTag, WhereTagged, HasCount, NumberIs, LawfulStructure, LawfulLine, LawfulLines}
 use Rattle.demands.proofs.PassIff.{last-iff, eqb-iff, cond-iff}
-use Rattle.demands.proofs.FoundLawful.{Apart, number-iff}
+use Rattle.demands.proofs.FoundLawful.{Apart, number-iff, typed-found}
+use Rattle.demands.proofs.StructureLawful.{entry-sound}
 
 -- an edition has the lines of edition 1
 abbrev pub Keeps : Edition → Type 0
 Keeps edition = (line : Line) → inEdition 1 line ≡ true → (edition .hasLine) line ≡ true
 
--- lines 3, 34 and 81 of the catalogue
-module _ (edition : Edition) (s : List ℕ) (lines : LawfulLines edition s) where
-  pub size-there : Keeps edition → HasTag s (signatureAt s) 1000
+-- the tags of check 18 as the catalogue has them
+abbrev pub OneString : List ℕ → Section → ℕ → Type 0
+OneString s header tag = WhereTagged s header tag (λ (e : IndexRecord). e .ty ≡ 6) × HasCount s header tag 1
+
+pub record TextLines (s : List ℕ) (header : Section) : Type 0 where
+  pub system : OneString s header 1021
+  pub preInstall : OneString s header 1085
+  pub postInstall : OneString s header 1086
+  pub preRemove : OneString s header 1087
+  pub postRemove : OneString s header 1088
+  pub directories : WhereTagged s header 1118 (λ (e : IndexRecord). e .ty ≡ 8)
+
+-- the batch weight's
+abbrev pub BatchLine : List ℕ → Section → Type 0
+BatchLine s header = HasTag s header batchTag × WhereTagged s header batchTag (λ (e : IndexRecord). e .ty ≡ 4)
+
+-- by their numbers in the catalogue
+module _ (edition : Edition) (s : List ℕ) (signature header : Section) (lines : LawfulLines edition s signature header) where
+  pub size-there : Keeps edition → HasTag s signature 1000
   unfolding lineAt catalogue signatureLines headerLines
   size-there keeps = lines .0 3 (omega arith) (keeps (lineAt 3) refl) .required (omega arith)
 
-  pub states-there : Keeps edition → HasTag s (headerAt s) 1028
+  pub states-there : Keeps edition → HasTag s header 1028
   unfolding lineAt catalogue signatureLines headerLines
   states-there keeps = lines .1 34 (omega arith) (omega arith) (keeps (lineAt 34) refl) .required (omega arith)
 
-  pub batch-there : hasBatch edition ≡ true → HasTag s (headerAt s) batchTag
+  pub batch-there : hasBatch edition ≡ true → BatchLine s header
   unfolding lineAt catalogue signatureLines headerLines
-  batch-there h = lines .1 batchLine (omega arith) (omega arith) h .required (omega arith)
+  batch-there h = let k = lines .1 batchLine (omega arith) (omega arith) h in (k .required (omega arith), k .type′)
+
+  pub text-lines : Keeps edition → TextLines s header
+  unfolding lineAt catalogue signatureLines headerLines
+  text-lines keeps =
+      let line : (i : ℕ) → 11 ≤ i → i < 82 → inEdition 1 (lineAt i) ≡ true → LawfulLine s header (lineAt i) =
+      λ i l m h. lines .1 i l m (keeps (lineAt i) h) in
+      record {
+        system = let k = line 27 (omega arith) (omega arith) refl in (k .type′, k .count (λ e. omega arith));
+        preInstall = let k = line 57 (omega arith) (omega arith) refl in (k .type′, k .count (λ e. omega arith));
+        postInstall = let k = line 58 (omega arith) (omega arith) refl in (k .type′, k .count (λ e. omega arith));
+        preRemove = let k = line 59 (omega arith) (omega arith) refl in (k .type′, k .count (λ e. omega arith));
+        postRemove = let k = line 60 (omega arith) (omega arith) refl in (k .type′, k .count (λ e. omega arith));
+        directories = line 72 (omega arith) (omega arith) refl .type′;
+      }
 
 -- 16
 pub size-lawful : (s : List ℕ) (len : ℕ) (signature header : Section) → Apart s signature → HasTag s signature 1000
     → (sizeTagCheck s len signature header ≡ Pass)
-    ↔ WhereTagged s signature 1000 (λ (e : IndexRecord). be32At s (inFile signature (e .offset)) ≡ len - header .start)
+    ↔ NumberIs s signature 1000 (len - header .start)
 unfolding sizeTagCheck
 size-lawful s len signature header apart h = simp (last-iff, eqb-iff, number-iff s signature apart 1000) Iff·rfl
 
 -- 23
-pub batch-lawful : (edition : Edition) (s : List ℕ) (header : Section) (sum : ℕ) → Apart s header
-    → (hasBatch edition ≡ true → HasTag s header batchTag)
-    → (sumCheck edition s header sum ≡ Pass)
-    ↔ (hasBatch edition ≡ true
-    → WhereTagged s header batchTag (λ (e : IndexRecord). be32At s (inFile header (e .offset)) ≡ sum))
-unfolding sumCheck
-batch-lawful edition s header sum apart led =
-    simp (cond-iff, last-iff, eqb-iff) (
-      λ h b. number-iff s header apart batchTag sum (led b) .0 (h b),
-      λ h b. number-iff s header apart batchTag sum (led b) .1 (h b),
-    )
+be32-part : (s : List ℕ) (at n : ℕ) → 4 ≤ n → be32At (take n (drop at s)) 0 ≡ be32At s at
+unfolding be32At
+be32-part s at n l = cc (byte 0 (omega arith), byte 1 (omega arith), byte 2 (omega arith), byte 3 (omega arith), first)
+  where
+    byte : (k : ℕ) → k < 4 → getD (take n (drop at s)) k 0 ≡ getD s (at + k) 0
+    byte k m = getD-take n (drop at s) k 0 (omega arith) ∙ getD-drop at s k 0
+
+    first : at + 0 ≡ at
+    first = omega arith
+
+module _ (s : List ℕ) (start : ℕ) (lawful : LawfulStructure s start) where
+  -- the number that a look-up shows is that of the record
+  shown-number : (i : ℕ) → i < sectionAt s start .nindex → recordAt s (sectionAt s start) i .tag ≡ batchTag
+      → recordAt s (sectionAt s start) i .ty ≡ 4
+      → weightIn s (sectionAt s start) ≡ be32At s (inFile (sectionAt s start) (recordAt s (sectionAt s start) i .offset))
+  unfolding elementSize
+  shown-number i l t q =
+      let header = sectionAt s start in
+      let entry = entryAt s header i in
+      let sound = entry-sound s start lawful i l in
+      let size = sound .fixed 4 (ap elementSize q) in
+      let some = sound .some in
+      ap (λ (f : Found). be32At (foundBytes s f) 0) (typed-found s header (lawful .tags) batchTag 4 i l t q)
+      ∙ be32-part s (entry .at .0) (entry .extent) (omega arith)
+
+  batch-number : (sum : ℕ) → BatchLine s (sectionAt s start)
+      → (weightIn s (sectionAt s start) ≡ sum) ↔ NumberIs s (sectionAt s start) batchTag sum
+  batch-number sum ((i, l, t), typed) = (
+    λ h j m u. sym (shown-number j m u (typed j m u)) ∙ h,
+    λ h. shown-number i l t (typed i l t) ∙ h i l t,
+  )
+
+  pub batch-lawful : (edition : Edition) (sum : ℕ) → (hasBatch edition ≡ true → BatchLine s (sectionAt s start))
+      → (sumCheck edition s (sectionAt s start) sum ≡ Pass)
+      ↔ (hasBatch edition ≡ true → NumberIs s (sectionAt s start) batchTag sum)
+  unfolding sumCheck
+  batch-lawful edition sum led =
+      simp (cond-iff, last-iff, eqb-iff)
+      (λ h b. batch-number sum (led b) .0 (h b), λ h b. batch-number sum (led b) .1 (h b))

@@ -1,4 +1,5 @@
--- Checks 5 to 13 of a structure are what the rules say of it: structure-lawful.
+-- Checks 5 to 13 of a structure are what the rules say of it: structure-lawful. The data of a record of a lawful one:
+-- entry-sound.
 use Prim.Native.Nat.{ℕ, zero, suc, _+_, _<_}
 use mathlib.Core.Path.{_≡_, refl, sym, ap, _∙_}
 use mathlib.Core.Logic.{_↔_, _≢_}
@@ -14,8 +15,10 @@ use Rattle.format.specs.Records.{headerRecordAt}
 use Rattle.format.proofs.VerdictLaws.{passed, inverted, both-pass}
 use Rattle.entries.specs.Entries.{recordAt, entryCheck, recordCheck}
 use Rattle.structure.specs.Structure.{sectionAt, headerCheck, recordsFrom, structureCheck}
-use Rattle.structure.specs.Sound.{SoundHeader}
+use Rattle.index.specs.Lookup.{entryAt}
+use Rattle.structure.specs.Sound.{SoundHeader, SoundEntry}
 use Rattle.structure.proofs.PassLaws.{structure-header, structure-record}
+use Rattle.structure.proofs.SoundLaws.{record-sound}
 use Rattle.demands.specs.Lawful.{LawfulRecord, LawfulStructure}
 use Rattle.demands.proofs.RecordLawful.{record-lawful, tags-lawful}
 
@@ -75,6 +78,11 @@ module _ (s : List ℕ) (start : ℕ) where
   record-passes : LawfulStructure s start → (i : ℕ) → i < sectionAt s start .nindex
       → recordCheck s (sectionAt s start) i ≡ Pass
   record-passes h i l = entry-lawful s (sectionAt s start) i .1 (h .records i l, λ j m. h .tags i j l m)
+
+  -- the data of a record
+  pub entry-sound : LawfulStructure s start → (i : ℕ) → i < sectionAt s start .nindex
+      → SoundEntry s (length s) (entryAt s (sectionAt s start) i)
+  entry-sound h i l = record-sound s (length s) (sectionAt s start) i (h .header .fits) (record-passes h i l)
 
   structure-passes : LawfulStructure s start → structureCheck s (length s) start ≡ Pass
   unfolding structureCheck

@@ -1,5 +1,5 @@
 -- A look-up by tag as the rules say it: tagged-record, tagged-absent, has-tag, lacks-tag, where-absent; and where no two
--- records share a tag, tagged-only, where-tagged, where-present.
+-- records share a tag, same-record, tagged-only, where-tagged, where-present.
 use Prim.Native.Nat.{ℕ, zero, suc, _+_, _≤_, _<_}
 use mathlib.Core.Path.{_≡_, refl, sym, ap, _∙_}
 use mathlib.Core.Logic.{_↔_, _≢_}
@@ -79,7 +79,7 @@ module _ (s : List ℕ) (section : Section) (tag : ℕ) where
 
   -- no two records share a tag
   module _ (apart : (i j : ℕ) → i < section .nindex → j < i → recordAt s section j .tag ≢ recordAt s section i .tag) where
-    same-record : (i j : ℕ) → i < section .nindex → j < section .nindex
+    pub same-record : (i j : ℕ) → i < section .nindex → j < section .nindex
         → recordAt s section i .tag ≡ recordAt s section j .tag → i ≡ j
     same-record i j l m h =
         let a : j < i → ⊥ = λ k. apart i j l k (sym h) in

@@ -1,26 +1,39 @@
--- Check 18 passes exactly on lawful texts: text-lawful, indexes-lawful, directories-lawful, texts-lawful.
+-- Check 18 passes exactly on lawful texts, where the tags are as the catalogue has them: texts-lawful.
 use Prim.Native.Nat.{ℕ, zero, suc, _+_, _-_, _*_, _≤_, _<_}
-use mathlib.Core.Path.{_≡_, refl, sym}
-use mathlib.Core.Logic.{_↔_, Iff·rfl, ⊎-elim}
-use mathlib.Core.List.{List}
-use mathlib.Core.Bool.{true, and-eq-true-iff}
-use lib.ListN.{getD, take, drop}
+use mathlib.Core.Path.{_≡_, refl, sym, ap, subst, _∙_}
+use mathlib.Core.Logic.{_↔_, Iff·rfl, Iff·trans, inl, ⊎-elim}
+use mathlib.Core.List.{List, [], _∷_, _++_}
+use mathlib.Core.Bool.{Bool, true, not, _&&_, and-eq-true-iff}
+use lib.Dec.{eqb}
+use lib.ListN.{length, getD, take, drop}
 use native.Mathlib.Omega.{arith}
 use native.Mathlib.Nat.{eq-or-lt-of-le}
+use borrow.Author.Tests.{eq-eqb}
 use Rattle.be.specs.Numbers.{be32At}
 use Rattle.be.specs.Bytes.{sameBytes}
 use Rattle.be.proofs.SameLaws.{same-eq, same-refl}
+use Rattle.strings.specs.declared.Ending.the-variants.{Ends}
+use Rattle.strings.specs.Strings.{stringsFrom}
 use Rattle.format.specs.declared.places.Section.{Section}
 use Rattle.format.specs.declared.records.IndexRecord.{IndexRecord}
 use Rattle.format.specs.declared.verdict.Verdict.the-variants.{Pass}
-use Rattle.index.specs.declared.Entry.{Entry}
-use Rattle.index.specs.declared.Found.{Found}
+use Rattle.format.specs.Places.{inFile}
+use Rattle.entries.specs.declared.types.ElementSize.the-variants.{ToZero}
+use Rattle.entries.specs.Types.{elementSize}
+use Rattle.entries.specs.Entries.{recordAt}
+use Rattle.index.specs.declared.Tagged.{Tagged}
+use Rattle.index.specs.Lookup.{entryAt, entryFor}
+use Rattle.structure.specs.Structure.{sectionAt}
+use Rattle.structure.specs.Sound.{SoundEntry}
 use Rattle.tags.specs.Tags.{countIn}
-use Rattle.texts.specs.Texts.{foundText, textIs, allBelow, foundBelow, indexesBelow}
+use Rattle.texts.specs.Texts.{linux, binSh, foundText, textIs, allBelow, foundBelow, indexesBelow}
 use Rattle.texts.specs.Texts.{slashesEnd, foundSlashes, directoriesEnd, textsCheck}
-use Rattle.demands.specs.Lawful.{HasTag, WhereTagged, DataIs, TextIs, LawfulTexts}
-use Rattle.demands.proofs.PassIff.{check-iff, eqb-iff, ltb-iff, cond-iff}
-use Rattle.demands.proofs.FoundLawful.{Apart, data-iff, below-count-iff}
+use Rattle.demands.specs.Lawful.{HasTag, WhereTagged, TextIs, Directories, LawfulTexts, LawfulStructure}
+use Rattle.demands.proofs.PassIff.{check-iff, eqb-iff, ltb-iff, cond-iff, not-iff}
+use Rattle.demands.proofs.FoundLawful.{Apart, record-iff, found-iff, below-count-iff}
+use Rattle.demands.proofs.StructureLawful.{entry-sound}
+use Rattle.demands.proofs.NumberLawful.{OneString, TextLines}
+use Rattle.demands.proofs.RowLawful.{SlashEnds, Whole, text-here, rows-lawful}
 
 same-iff : (a b : List ℕ) → (sameBytes a b ≡ true) ↔ (a ≡ b)
 same-iff a b = (same-eq a b, λ e. rw e (same-refl b))
@@ -49,10 +62,6 @@ below-lawful s limit (suc n) at =
 -- what stands before a zero byte: the byte before it, or at the first place the last byte
 abbrev Before : List ℕ → ℕ → ℕ → ℕ → Type 0
 Before s last at z = (z ≡ at → last ≡ 0x2F) × (at < z → getD s (z - 1) 0 ≡ 0x2F)
-
--- each zero byte of n bytes from a place on stands right behind a slash of theirs
-abbrev SlashEnds : List ℕ → ℕ → ℕ → Type 0
-SlashEnds s n at = (z : ℕ) → at ≤ z → z < at + n → getD s z 0 ≡ 0 → (at < z) × (getD s (z - 1) 0 ≡ 0x2F)
 
 module _ (s : List ℕ) where
   -- from a place on: there, and from the next place on
@@ -93,46 +102,127 @@ module _ (s : List ℕ) where
         λ h z l m q. let b = h z l m q in (λ e. absurd (omega arith), λ k. b .1),
       )
 
-module _ (s : List ℕ) (header : Section) (apart : Apart s header) where
-  text-lawful : (text : List ℕ) (tag : ℕ) → (textIs s header text tag ≡ true) ↔ TextIs s header tag text
-  text-lawful text tag =
-      data-iff s header apart tag (λ (f : Found). foundText s text f ≡ true)
-      (λ (entry : Entry). take (entry .extent) (drop (entry .at .0) s) ≡ text) (λ entry k. same-iff _ text) refl
+six-strings : elementSize 6 ≡ ToZero
+unfolding elementSize
+six-strings = refl
 
-  ends-lawful : (directoriesEnd s header ≡ true)
-      ↔ DataIs s header 1118 (λ (entry : Entry). SlashEnds s (entry .extent) (entry .at .0))
-  ends-lawful =
-      data-iff s header apart 1118 (λ (f : Found). foundSlashes s f ≡ true)
-      (λ (entry : Entry). SlashEnds s (entry .extent) (entry .at .0)) (λ entry k. directories-lawful s _ _) refl
+eight-strings : elementSize 8 ≡ ToZero
+unfolding elementSize
+eight-strings = refl
+
+-- a text without zero bytes, by a test
+unfoldable nonzero : List ℕ → Bool
+nonzero [] = true
+nonzero (b ∷ rest) = not (eqb b 0) && nonzero rest
+
+whole : (text : List ℕ) → nonzero text ≡ true → Whole text
+unfolding nonzero
+whole [] h i l = absurd (omega arith)
+whole (b ∷ rest) h zero l = λ e. not-iff (eqb b 0) .0 (and-eq-true-iff (not (eqb b 0)) (nonzero rest) .0 h .0) (eq-eqb b 0 e)
+whole (b ∷ rest) h (suc i) l = whole rest (and-eq-true-iff (not (eqb b 0)) (nonzero rest) .0 h .1) i (omega arith)
+
+module _ (s : List ℕ) (start : ℕ) (lawful : LawfulStructure s start) where
+  abbrev header : Section
+  header = sectionAt s start
+
+  apart : Apart s header
+  apart = lawful .tags
+
+  -- a record's data
+  module _ (i : ℕ) (l : i < header .nindex) where
+    abbrev at : ℕ
+    at = entryAt s header i .at .0
+
+    abbrev extent : ℕ
+    extent = entryAt s header i .extent
+
+    sound : SoundEntry s (length s) (entryAt s header i)
+    sound = entry-sound s start lawful i l
+
+    rows : (ty : ℕ) → elementSize ty ≡ ToZero → recordAt s header i .ty ≡ ty
+        → stringsFrom s extent at (recordAt s header i .count) ≡ Ends (at + extent)
+    rows ty p q = sound .strings (ap elementSize q ∙ p)
+
+    text-at : (text : List ℕ) → Whole text → recordAt s header i .ty ≡ 6 → recordAt s header i .count ≡ 1
+        → (sameBytes (take extent (drop at s)) (text ++ 0 ∷ []) ≡ true)
+        ↔ (take (length (text ++ 0 ∷ [])) (drop at s) ≡ text ++ 0 ∷ [])
+    text-at text w p q =
+        let one = subst (λ (n : ℕ). stringsFrom s extent at n ≡ Ends (at + extent)) q (rows 6 six-strings p) in
+        Iff·trans (same-iff _ (text ++ 0 ∷ [])) (text-here s at extent one (sound .bytes) (sound .inside) text w)
+
+    slashes-at : recordAt s header i .ty ≡ 8
+        → (slashesEnd s 0 extent at ≡ true) ↔ Directories s at (recordAt s header i .count)
+    slashes-at p =
+        Iff·trans (directories-lawful s extent at)
+        (rows-lawful s (recordAt s header i .count) extent at (rows 8 eight-strings p) (sound .inside))
+
+  text-lawful : (text : List ℕ) → nonzero text ≡ true → (tag : ℕ) → OneString s header tag
+      → (textIs s header (text ++ 0 ∷ []) tag ≡ true) ↔ TextIs s header tag (text ++ 0 ∷ [])
+  text-lawful text w tag one =
+      record-iff s header apart tag
+      (λ (t : Tagged). foundText s (text ++ 0 ∷ []) (entryFor s header t) ≡ true)
+      (λ (e : IndexRecord). take (length (text ++ 0 ∷ [])) (drop (inFile header (e .offset)) s) ≡ text ++ 0 ∷ [])
+      (λ i l t. text-at i l text (whole text w) (one .0 i l t) (one .1 i l t)) (inl refl)
+
+  linux-lawful : (tag : ℕ) → OneString s header tag → (textIs s header linux tag ≡ true) ↔ TextIs s header tag linux
+  unfolding nonzero
+  linux-lawful = text-lawful (0x6C ∷ 0x69 ∷ 0x6E ∷ 0x75 ∷ 0x78 ∷ []) refl
+
+  shell-lawful : (tag : ℕ) → OneString s header tag → (textIs s header binSh tag ≡ true) ↔ TextIs s header tag binSh
+  unfolding nonzero
+  shell-lawful = text-lawful (0x2F ∷ 0x62 ∷ 0x69 ∷ 0x6E ∷ 0x2F ∷ 0x73 ∷ 0x68 ∷ []) refl
+
+  ends-lawful : WhereTagged s header 1118 (λ (e : IndexRecord). e .ty ≡ 8)
+      → (directoriesEnd s header ≡ true)
+      ↔ WhereTagged s header 1118 (λ (e : IndexRecord). Directories s (inFile header (e .offset)) (e .count))
+  ends-lawful typed =
+      record-iff s header apart 1118 (λ (t : Tagged). foundSlashes s (entryFor s header t) ≡ true)
+      (λ (e : IndexRecord). Directories s (inFile header (e .offset)) (e .count))
+      (λ i l t. slashes-at i l (typed i l t)) (inl refl)
 
   indexes-lawful : (HasTag s header 1116 → HasTag s header 1118)
-      → (indexesBelow s header ≡ true) ↔ DataIs s header 1116
-      (λ (entry : Entry). (k : ℕ) → k < entry .count
-      → WhereTagged s header 1118 (λ (e : IndexRecord). be32At s (entry .at .0 + 4 * k) < e .count))
+      → (indexesBelow s header ≡ true) ↔ WhereTagged s header 1116
+      (λ (e : IndexRecord). (k : ℕ) → k < e .count
+      → WhereTagged s header 1118 (λ (d : IndexRecord). be32At s (inFile header (e .offset) + 4 * k) < d .count))
   indexes-lawful led =
-      data-iff s header apart 1116 (λ (f : Found). foundBelow s (countIn s header 1118) f ≡ true)
-      (λ (entry : Entry). (k : ℕ) → k < entry .count
-      → WhereTagged s header 1118 (λ (e : IndexRecord). be32At s (entry .at .0 + 4 * k) < e .count))
-      (λ entry h. simp (below-lawful, below-count-iff s header apart 1118, led h) Iff·rfl) refl
+      found-iff s header apart 1116
+      (λ (t : Tagged). foundBelow s (countIn s header 1118) (entryFor s header t) ≡ true)
+      (λ (e : IndexRecord). (k : ℕ) → k < e .count
+      → WhereTagged s header 1118 (λ (d : IndexRecord). be32At s (inFile header (e .offset) + 4 * k) < d .count))
+      (λ e h. simp (below-lawful, below-count-iff s header apart 1118, led h) Iff·rfl) (inl refl)
 
   -- 1118 is present where 1116 is
-  pub texts-lawful : (HasTag s header 1116 → HasTag s header 1118) → (textsCheck s header ≡ Pass) ↔ LawfulTexts s header
+  pub texts-lawful : TextLines s header → (HasTag s header 1116 → HasTag s header 1118)
+      → (textsCheck s header ≡ Pass) ↔ LawfulTexts s header
   unfolding textsCheck
-  texts-lawful led =
-      simp (check-iff, text-lawful, indexes-lawful led, ends-lawful) (
+  texts-lawful typed led =
+      let system = linux-lawful 1021 (typed .system) in
+      let pre = shell-lawful 1085 (typed .preInstall) in
+      let post = shell-lawful 1086 (typed .postInstall) in
+      let preun = shell-lawful 1087 (typed .preRemove) in
+      let postun = shell-lawful 1088 (typed .postRemove) in
+      let indexes = indexes-lawful led in
+      let ends = ends-lawful (typed .directories) in
+      simp check-iff (
         λ h. let scripts = h .1 in
             let lists = scripts .1 .1 .1 .1 in
             record {
-              system = h .0;
-              preInstall = scripts .0;
-              postInstall = scripts .1 .0;
-              preRemove = scripts .1 .1 .0;
-              postRemove = scripts .1 .1 .1 .0;
-              indexes = lists .0;
-              directories = lists .1 .0;
+              system = system .0 (h .0);
+              preInstall = pre .0 (scripts .0);
+              postInstall = post .0 (scripts .1 .0);
+              preRemove = preun .0 (scripts .1 .1 .0);
+              postRemove = postun .0 (scripts .1 .1 .1 .0);
+              indexes = indexes .0 (lists .0);
+              directories = ends .0 (lists .1 .0);
             },
         λ r. (
-          r .system,
-          (r .preInstall, (r .postInstall, (r .preRemove, (r .postRemove, (r .indexes, (r .directories, refl)))))),
+          system .1 (r .system),
+          (
+            pre .1 (r .preInstall),
+            (
+              post .1 (r .postInstall),
+              (preun .1 (r .preRemove), (postun .1 (r .postRemove), (indexes .1 (r .indexes), (ends .1 (r .directories), refl)))),
+            ),
+          ),
         ),
       )

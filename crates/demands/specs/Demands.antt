@@ -16,29 +16,33 @@ use Rattle.book.specs.Doses.{doses}
 use Rattle.buffer.specs.Buffer.{numbersOf}
 use Rattle.reading.specs.Editions.{Edition, Extends, editionOf, batchTag, batchLine}
 use Rattle.reading.specs.Reading.{bookOf, needed, checksAt, readAnswer}
-use Rattle.reading.specs.Buffers.{bufferAfter, Read}
+use Rattle.reading.specs.Buffers.{Form, Numbers, Bytes, roomIn, cells, leftIn, ReadInto}
 use Rattle.demands.specs.Lawful.{LawfulPackage}
 
 -- Demand 1: "A refused reading changes no number of the dose buffer; an accepted one writes its doses at the front and nothing
 -- behind them." (`readAnswer` is the number and place of the first check that fails, in document 01's order.)
 abbrev pub RefusedKeeps : Type 0
 RefusedKeeps =
-    (edition : ℕ) (s before : List ℕ) (number place : ℕ) → readAnswer edition s (length before) ≡ Refused number place
-    → bufferAfter edition s before ≡ before
+    (form : Form) (edition : ℕ) (s before : List ℕ) (number place : ℕ)
+    → readAnswer edition s (roomIn form before) ≡ Refused number place → leftIn form edition s before ≡ before
+
+-- the doses of a book as they stand in a buffer
+abbrev pub doseCells : Form → List ℕ → List ℕ
+doseCells form book = cells form (numbersOf (doses book))
 
 abbrev pub AcceptedWrites : Type 0
 AcceptedWrites =
-    (edition : ℕ) (s before : List ℕ) (count : ℕ) → readAnswer edition s (length before) ≡ Done count
+    (form : Form) (edition : ℕ) (s before : List ℕ) (count : ℕ) → readAnswer edition s (roomIn form before) ≡ Done count
     → (count ≡ length (doses (bookOf s)))
-    × (bufferAfter edition s before
-    ≡ numbersOf (doses (bookOf s)) ++ drop (length (numbersOf (doses (bookOf s)))) before)
+    × (leftIn form edition s before ≡ doseCells form (bookOf s) ++ drop (length (doseCells form (bookOf s))) before)
 
 -- Demand 2: "With a known edition and room for the doses, a package is accepted exactly when it obeys the LSB package format and
 -- our book rules as document 01 fixes them." (The doses are those that the book's records state, in order: `doses`.)
 abbrev pub Demand2 : Type 0
 Demand2 =
-    (edition : ℕ) (s before : List ℕ) → 1 ≤ edition → edition ≤ 2 → needed (bookOf s) ≤ length before
-    → (readAnswer edition s (length before) ≡ Done (length (doses (bookOf s)))) ↔ LawfulPackage (editionOf edition) s
+    (form : Form) (edition : ℕ) (s before : List ℕ) → 1 ≤ edition → edition ≤ 2
+    → (readAnswer edition s (roomIn form before) ≡ Done (length (doses (bookOf s))))
+    ↔ (LawfulPackage (editionOf edition) s × (needed (bookOf s) ≤ roomIn form before))
 
 -- the records of a book whose weighed kind an edition lacks: the first of them, where there is one
 pub data Lacking : Type 0 where
@@ -102,12 +106,19 @@ pub record EditionsAgree (s : List ℕ) (first second : Answer) (after after′ 
 
 abbrev pub Demand3 : Type 0
 Demand3 =
-    (s before : List ℕ)
-    → EditionsAgree s (readAnswer 1 s (length before)) (readAnswer 2 s (length before)) (bufferAfter 1 s before)
-    (bufferAfter 2 s before)
+    (form : Form) (s before : List ℕ)
+    → EditionsAgree s (readAnswer 1 s (roomIn form before)) (readAnswer 2 s (roomIn form before)) (leftIn form 1 s before)
+    (leftIn form 2 s before)
 
--- Demand 3 of the call that reads at both editions
-pub record ReadBoth (s before before′ : List ℕ) (first second : Answer) (after after′ : List ℕ) : Type 0 where
-  pub atFirst : Read 1 s before first after
-  pub atSecond : Read 2 s before′ second after′
-  pub agree : before ≡ before′ → EditionsAgree s first second after after′
+-- Demand 3 of a call that reads at both editions
+pub record ReadBothInto (form : Form) (s before before′ : List ℕ) (first second : Answer) (after after′ : List ℕ) : Type 0
+  where
+    pub atFirst : ReadInto form 1 s before first after
+    pub atSecond : ReadInto form 2 s before′ second after′
+    pub agree : before ≡ before′ → EditionsAgree s first second after after′
+
+abbrev pub ReadBoth : List ℕ → List ℕ → List ℕ → Answer → Answer → List ℕ → List ℕ → Type 0
+ReadBoth = ReadBothInto Numbers
+
+abbrev pub ReadBothBytes : List ℕ → List ℕ → List ℕ → Answer → Answer → List ℕ → List ℕ → Type 0
+ReadBothBytes = ReadBothInto Bytes

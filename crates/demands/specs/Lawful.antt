@@ -2,7 +2,7 @@
 use Prim.Native.Nat.{ℕ, zero, suc, _+_, _-_, _*_, _%_, _≤_, _<_}
 use mathlib.Core.Path.{_≡_}
 use mathlib.Core.Logic.{_⊎_, _≢_}
-use mathlib.Core.List.{List, _∷_, []}
+use mathlib.Core.List.{List, _∷_, [], _++_}
 use mathlib.Core.Bool.{Bool, true, cond}
 use lib.ListN.{length, getD, take, drop}
 use lib.Dec.{eqb}
@@ -10,16 +10,13 @@ use Rattle.be.specs.Numbers.{be16At, be32At}
 use Rattle.format.specs.declared.places.Section.{Section}
 use Rattle.format.specs.declared.records.IndexRecord.{IndexRecord}
 use Rattle.format.specs.Sizes.{packageLimit, leadSize}
-use Rattle.format.specs.Places.{inFile}
+use Rattle.format.specs.Places.{sectionEnd, inFile}
 use Rattle.format.specs.Records.{headerRecordAt}
 use Rattle.entries.specs.declared.types.ElementSize.the-variants.{Bytes, ToZero}
-use Rattle.index.specs.declared.Entry.{Entry}
 use Rattle.entries.specs.Types.{elementSize}
 use Rattle.entries.specs.Entries.{recordAt}
 use Rattle.structure.specs.Structure.{sectionAt}
 use Rattle.structure.specs.Sound.{SoundHeader}
-use Rattle.index.specs.Lookup.{entryAt}
-use Rattle.package.specs.Package.{headerStart, signatureAt, headerAt}
 use Rattle.catalogue.specs.declared.Line.{Line}
 use Rattle.catalogue.specs.Catalogue.{lineAt, signatureCount, lineCount}
 use Rattle.groups.specs.Groups.{fileTags}
@@ -28,7 +25,7 @@ use Rattle.book.specs.Kinds.{isWeighed}
 use Rattle.book.specs.Book.{bookLimit, kindAt, recordEnd, places, doseAt}
 use Rattle.book.specs.Doses.{doses, sumOf}
 use Rattle.reading.specs.Editions.{Edition, batchTag, hasBatch}
-use Rattle.reading.specs.Reading.{bookOf}
+use Rattle.reading.specs.Reading.{bookIn}
 
 -- "Lead": bytes 0-3 are ED AB EE DB; 4 is 3; 5 is 0; 6-7 (type) are 0; 10-75 (name) hold at least one zero byte; 76-77
 -- (system) are 1; 78-79 (signature type) are 5
@@ -89,10 +86,10 @@ pub record LawfulLine (s : List ℕ) (section : Section) (line : Line) : Type 0 
   pub type′ : WhereTagged s section (line .tag) (λ (e : IndexRecord). e .ty ≡ line .ty)
   pub count : line .count ≢ 0 → HasCount s section (line .tag) (line .count)
 
-abbrev pub LawfulLines : Edition → List ℕ → Type 0
-LawfulLines edition s =
-    ((i : ℕ) → i < signatureCount → (edition .hasLine) (lineAt i) ≡ true → LawfulLine s (signatureAt s) (lineAt i))
-    × ((i : ℕ) → signatureCount ≤ i → i < lineCount → (edition .hasLine) (lineAt i) ≡ true → LawfulLine s (headerAt s) (lineAt i))
+abbrev pub LawfulLines : Edition → List ℕ → Section → Section → Type 0
+LawfulLines edition s signature header =
+    ((i : ℕ) → i < signatureCount → (edition .hasLine) (lineAt i) ≡ true → LawfulLine s signature (lineAt i))
+    × ((i : ℕ) → signatureCount ≤ i → i < lineCount → (edition .hasLine) (lineAt i) ≡ true → LawfulLine s header (lineAt i))
 
 -- "Groups": one tag needs another
 abbrev pub Needs : List ℕ → Section → ℕ → ℕ → Type 0
@@ -104,10 +101,10 @@ pub record LawfulLed (s : List ℕ) (header : Section) (leader a b c : ℕ) : Ty
       → (HasTag s header a × HasTag s header b × HasTag s header c)
   pub counts : SameCount s header a leader × SameCount s header b leader × SameCount s header c leader
 
--- a rule for each of some tags
-abbrev pub Each : List ℕ → (ℕ → Type 0) → Type 0
+-- a rule for each of a list
+abbrev pub Each : {A : Type 0} → List A → (A → Type 0) → Type 0
 Each [] Rule = Unit
-Each (tag ∷ rest) Rule = Rule tag × Each rest Rule
+Each (one ∷ rest) Rule = Rule one × Each rest Rule
 
 pub record LawfulGroups (s : List ℕ) (signature header : Section) : Type 0 where
   -- the signature's 1011 needs its 1005; its 1012 needs its 1002
@@ -135,29 +132,42 @@ pub record LawfulGroups (s : List ℕ) (signature header : Section) : Type 0 whe
   pub obsoletes : LawfulLed s header 1090 1090 1114 1115
   pub changes : LawfulLed s header 1081 1080 1081 1082
 
--- the data of every record that has a tag
-abbrev pub DataIs : List ℕ → Section → ℕ → (Entry → Type 0) → Type 0
-DataIs s section tag Rule = (i : ℕ) → i < section .nindex → recordAt s section i .tag ≡ tag → Rule (entryAt s section i)
-
+-- the bytes from the data of every record that has a tag on are a text
 abbrev pub TextIs : List ℕ → Section → ℕ → List ℕ → Type 0
-TextIs s section tag text = DataIs s section tag (λ (entry : Entry). take (entry .extent) (drop (entry .at .0) s) ≡ text)
+TextIs s section tag text =
+    WhereTagged s section tag (λ (e : IndexRecord). take (length text) (drop (inFile section (e .offset)) s) ≡ text)
+
+-- texts in a row, each with a zero byte behind it
+unfoldable pub inRow : List (List ℕ) → List ℕ
+inRow [] = []
+inRow (text ∷ rest) = text ++ 0 ∷ inRow rest
+
+-- a text without zero bytes that ends with "/" (0x2F)
+pub record Directory (text : List ℕ) : Type 0 where
+  pub whole : (i : ℕ) → i < length text → getD text i 0 ≢ 0
+  pub slash : (front : List ℕ) × (text ≡ front ++ 0x2F ∷ [])
+
+-- the bytes from a place on are so many of them in a row
+pub record Directories (s : List ℕ) (at count : ℕ) : Type 0 where
+  pub texts : List (List ℕ)
+  pub number : length texts ≡ count
+  pub bytes : take (length (inRow texts)) (drop at s) ≡ inRow texts
+  pub each : Each texts Directory
 
 -- "Texts"
 pub record LawfulTexts (s : List ℕ) (header : Section) : Type 0 where
-  -- 1021 is "linux"; 1085 to 1088, where present, are "/bin/sh"
+  -- 1021 is "linux"; 1085 to 1088, where present, are "/bin/sh"; each with its zero byte
   pub system : TextIs s header 1021 linux
   pub preInstall : TextIs s header 1085 binSh
   pub postInstall : TextIs s header 1086 binSh
   pub preRemove : TextIs s header 1087 binSh
   pub postRemove : TextIs s header 1088 binSh
   -- each 1116 value is below the count of 1118
-  pub indexes : DataIs s header 1116
-      (λ (entry : Entry). (k : ℕ) → k < entry .count
-      → WhereTagged s header 1118 (λ (e : IndexRecord). be32At s (entry .at .0 + 4 * k) < e .count))
-  -- each string of 1118 ends with "/": each zero byte of its data stands right behind one
-  pub directories : DataIs s header 1118
-      (λ (entry : Entry). (z : ℕ) → entry .at .0 ≤ z → z < entry .at .0 + entry .extent → getD s z 0 ≡ 0
-      → (entry .at .0 < z) × (getD s (z - 1) 0 ≡ 0x2F))
+  pub indexes : WhereTagged s header 1116
+      (λ (e : IndexRecord). (k : ℕ) → k < e .count
+      → WhereTagged s header 1118 (λ (d : IndexRecord). be32At s (inFile header (e .offset) + 4 * k) < d .count))
+  -- each string of 1118 ends with "/"
+  pub directories : WhereTagged s header 1118 (λ (e : IndexRecord). Directories s (inFile header (e .offset)) (e .count))
 
 -- "Book": a record at a place
 pub record LawfulBookRecord (known : ℕ → Bool) (b : List ℕ) (at : ℕ) : Type 0 where
@@ -174,21 +184,32 @@ pub record LawfulBook (known : ℕ → Bool) (b : List ℕ) : Type 0 where
   pub size : length b ≤ bookLimit
   pub records : (i : ℕ) → i < length (places b) → LawfulBookRecord known b (getD (places b) i 0)
 
+-- the first multiple of a number at or after a place
+pub record FirstMultiple (n place start : ℕ) : Type 0 where
+  pub multiple : start % n ≡ 0
+  pub after : place ≤ start
+  pub first : (other : ℕ) → other % n ≡ 0 → place ≤ other → start ≤ other
+
+-- the 32-bit number of every record that has a tag
+abbrev pub NumberIs : List ℕ → Section → ℕ → ℕ → Type 0
+NumberIs s section tag n = WhereTagged s section tag (λ (e : IndexRecord). be32At s (inFile section (e .offset)) ≡ n)
+
 -- a right package at an edition
 pub record LawfulPackage (edition : Edition) (s : List ℕ) : Type 0 where
   pub most : length s ≤ packageLimit
   pub least : leadSize ≤ length s
   pub lead : LawfulLead s
+  -- the signature structure starts at S = 96
   pub signature : LawfulStructure s leadSize
-  pub header : LawfulStructure s (headerStart (signatureAt s))
-  pub lines : LawfulLines edition s
+  -- the header structure starts at H, the first multiple of 8 at or after the signature's end
+  pub H : ℕ
+  pub place : FirstMultiple 8 (sectionEnd (sectionAt s leadSize)) H
+  pub header : LawfulStructure s H
+  pub lines : LawfulLines edition s (sectionAt s leadSize) (sectionAt s H)
   -- the signature's 1000 is length − H
-  pub payload : WhereTagged s (signatureAt s) 1000
-      (λ (e : IndexRecord). be32At s (inFile (signatureAt s) (e .offset)) ≡ length s - headerStart (signatureAt s))
-  pub groups : LawfulGroups s (signatureAt s) (headerAt s)
-  pub texts : LawfulTexts s (headerAt s)
-  pub book : LawfulBook (edition .known) (bookOf s)
+  pub payload : NumberIs s (sectionAt s leadSize) 1000 (length s - H)
+  pub groups : LawfulGroups s (sectionAt s leadSize) (sectionAt s H)
+  pub texts : LawfulTexts s (sectionAt s H)
+  pub book : LawfulBook (edition .known) (bookIn s (sectionAt s H))
   -- where the edition has the batch weight's line, the doses' sum equals its value
-  pub batch : hasBatch edition ≡ true
-      → WhereTagged s (headerAt s) batchTag
-      (λ (e : IndexRecord). be32At s (inFile (headerAt s) (e .offset)) ≡ sumOf (doses (bookOf s)))
+  pub batch : hasBatch edition ≡ true → NumberIs s (sectionAt s H) batchTag (sumOf (doses (bookIn s (sectionAt s H))))

@@ -1,5 +1,5 @@
 // The letter's demands over the reading, and the call that reads a package at both editions.
-ghost use Rattle.demands.specs.Demands.{ReadBoth};
+ghost use Rattle.demands.specs.Demands.{ReadBoth, ReadBothBytes};
 use format::Answer;
 
 // What the readings at editions 1 and 2 answer.
@@ -15,5 +15,14 @@ pub fn read_both(pkg: &[u8], early: &mut [u32], late: &mut [u32]) -> Answers
 {
     let first = reading::read(1, pkg, early);
     let second = reading::read(2, pkg, late);
+    Answers { first, second }
+}
+
+// The same into buffers of bytes, four to a number, big-endian.
+pub fn read_both_bytes(pkg: &[u8], early: &mut [u8], late: &mut [u8]) -> Answers
+    ensures { λ r. ⌜ ReadBothBytes (now (pkg .entry)) (now (early .entry)) (now (late .entry)) (r .first) (r .second) (now (early .exit)) (now (late .exit)) ⌝ }
+{
+    let first = reading::read_bytes(1, pkg, early);
+    let second = reading::read_bytes(2, pkg, late);
     Answers { first, second }
 }

@@ -1,7 +1,7 @@
 -- Checks 1 to 24 and what they leave in the buffer, for each way through the functions.
 use Prim.Native.Nat.{ℕ, _≤_}
 use mathlib.Core.Path.{_≡_, refl, sym, ap, _∙_}
-use mathlib.Core.List.{List}
+use mathlib.Core.List.{List, [], _∷_}
 use lib.ListN.{length}
 use native.Mathlib.Omega.{arith}
 use Rattle.format.specs.declared.places.Section.{Section}
@@ -9,123 +9,140 @@ use Rattle.format.specs.declared.verdict.Verdict.{Verdict}
 use Rattle.format.specs.declared.verdict.Verdict.the-variants.{Pass, Fail}
 use Rattle.format.specs.declared.verdict.Answer.the-variants as answer
 use Rattle.format.specs.Verdicts.{both}
-use Rattle.format.proofs.VerdictLaws.{both-pass, both-fail}
+use Rattle.format.proofs.VerdictLaws.{both-pass, both-fail, both-inverted}
 use Rattle.package.specs.declared.Opened.{Opened}
-use Rattle.package.specs.declared.Opened.the-variants as opened′
-use Rattle.package.specs.Package.{signatureAt, headerAt, soundCheck, opened}
-use Rattle.package.proofs.OpenLaws.{opened-sound, opened-unsound, sound-size}
+use Rattle.package.specs.declared.Opened.the-variants.{Sound, Unsound}
+use Rattle.package.specs.Package.{signatureAt, headerAt, soundCheck, openedAs, opened}
+use Rattle.package.proofs.OpenLaws.{sound-size}
+use Rattle.book.specs.declared.dose.Dose.{Dose}
 use Rattle.book.specs.Doses.{doses}
+use Rattle.buffer.specs.Buffer.{numbersOf, numberBytes}
 use Rattle.reading.specs.declared.opened.Weighing.{Weighing}
-use Rattle.reading.specs.declared.opened.Weighing.the-variants as weighing
-use Rattle.reading.specs.declared.Decided.{Decided}
-use Rattle.reading.specs.declared.Decided.the-variants.{Accepted, Refused}
+use Rattle.reading.specs.declared.opened.Weighing.the-variants.{Doses, Refused}
 use Rattle.reading.specs.Editions.{editionOf}
-use Rattle.reading.specs.Reading.{editionCheck, bookIn, bookOf, openedCheck, checksAt, readingCheck, readAnswer}
-use Rattle.reading.specs.Weighings.{weighingAs}
-use Rattle.reading.specs.Buffers.{afterAs, leftIn, ReadInto, decidedAs, decided}
+use Rattle.reading.specs.Reading.{editionCheck, bookOf, openedCheck, checksAt, readingCheck, readAnswer}
+use Rattle.reading.specs.Weighings.{openedAt, openedBook, weighingAs, decided}
+use Rattle.reading.specs.Buffers.{afterAs, Form, Numbers, Bytes, roomIn, put, leftIn, ReadInto}
 
-weighed : (v : Verdict) (n : ℕ) {count : ℕ} → weighingAs v n ≡ weighing.Doses count → (v ≡ Pass) × (n ≡ count)
+-- what a weighing says of the verdict
+weighed : (v : Verdict) (n : ℕ) {count : ℕ} → weighingAs v n ≡ Doses count → (v ≡ Pass) × (n ≡ count)
 weighed Pass n h = (refl, cc)
 weighed (Fail number place) n h = let z : _≡_ {A = ℕ} 0 1 = cc in absurd (omega arith)
 
-unweighed : (v : Verdict) (n : ℕ) {number place : ℕ} → weighingAs v n ≡ weighing.Refused number place → v ≡ Fail number place
+unweighed : (v : Verdict) (n : ℕ) {number place : ℕ} → weighingAs v n ≡ Refused number place → v ≡ Fail number place
 unweighed Pass n h = let z : _≡_ {A = ℕ} 0 1 = cc in absurd (omega arith)
 unweighed (Fail number place) n h = cc
 
--- in the shape of what is known where the reading is decided: v is what check 1 found, r the package as it was opened
-module _ (edition : ℕ) (s : List ℕ) (room : ℕ) {v : Verdict} (p : v ≡ editionCheck edition) where
-  pub edition-refused : {number place : ℕ} → v ≡ Fail number place → Refused number place ≡ decided edition s room
-  unfolding decided readingCheck
+-- and what an opened package does
+sound-as : (v : Verdict) (a b : Section) {signature header : Section} → openedAs v a b ≡ Sound signature header
+    → (v ≡ Pass) × (a ≡ signature) × (b ≡ header)
+sound-as Pass a b h = (refl, cc, cc)
+sound-as (Fail number place) a b h = let z : _≡_ {A = ℕ} 0 1 = cc in absurd (omega arith)
+
+unsound-as : (v : Verdict) (a b : Section) {number place : ℕ} → openedAs v a b ≡ Unsound number place → v ≡ Fail number place
+unsound-as Pass a b h = let z : _≡_ {A = ℕ} 0 1 = cc in absurd (omega arith)
+unsound-as (Fail number place) a b h = cc
+
+both-first : (u v w : Verdict) {number place : ℕ} → both u v ≡ Fail number place → both u (both v w) ≡ Fail number place
+unfolding both
+both-first Pass v w h = both-fail w h
+both-first (Fail n p) v w h = h
+
+-- in the shape of what is known where a package is opened: v is what check 1 found
+module _ (edition : ℕ) (s : List ℕ) {v : Verdict} (p : v ≡ editionCheck edition) where
+  pub edition-refused : {number place : ℕ} → v ≡ Fail number place → Unsound number place ≡ openedAt edition s
+  unfolding openedAt
   edition-refused h = rw (both-fail _ (sym p ∙ h))
 
-  module _ (h : v ≡ Pass) {r : Opened} (q : r ≡ opened s) where
-    left : readingCheck edition s room ≡ both (soundCheck s) (openedCheck (editionOf edition) s (signatureAt s) (headerAt s) room)
+  pub edition-known : {r : Opened} → v ≡ Pass → r ≡ opened s → r ≡ openedAt edition s
+  unfolding openedAt opened
+  edition-known h q = q ∙ ap (λ (u : Verdict). openedAs u (signatureAt s) (headerAt s)) (sym (both-pass (sym p ∙ h)))
+
+-- and where the reading is decided: r is the package as it was opened, b its book
+module _ (edition : ℕ) (s : List ℕ) (room : ℕ) {r : Opened} (q : r ≡ openedAt edition s) where
+  pub unsound-refused : {number place : ℕ} → r ≡ Unsound number place → Refused number place ≡ decided edition s room
+  unfolding decided openedAt readingCheck checksAt
+  unsound-refused k = rw (both-first _ _ _ (unsound-as _ _ _ (sym q ∙ k)))
+
+  module _ {signature header : Section} (k : r ≡ Sound signature header) where
+    sound : (editionCheck edition ≡ Pass) × (soundCheck s ≡ Pass) × (signatureAt s ≡ signature) × (headerAt s ≡ header)
+    unfolding openedAt
+    sound =
+        let f = sound-as _ _ _ (sym q ∙ k) in
+        let g = both-inverted _ _ (f .0) in
+        (g .0, g .1, f .1, f .2)
+
+    pub small : length s ≤ 65536
+    small = sound-size s (sound .1)
+
+    left : readingCheck edition s room ≡ openedCheck (editionOf edition) s (signatureAt s) (headerAt s) room (bookOf s)
     unfolding readingCheck checksAt
-    left = both-pass (sym p ∙ h)
+    left = both-pass (sound .0) ∙ both-pass (sound .1)
 
-    pub unsound-refused : {number place : ℕ} → r ≡ opened′.Unsound number place → Refused number place ≡ decided edition s room
+    pub weighing : {b : List ℕ} {w : Weighing} → b ≡ openedBook s r
+        → w ≡ weighingAs (openedCheck (editionOf edition) s signature header room b) (length (doses b))
+        → w ≡ decided edition s room
     unfolding decided
-    unsound-refused k = rw (left ∙ both-fail _ (opened-unsound s (sym q ∙ k)))
+    weighing {b} e j =
+        let f = sound in
+        let ed = editionOf edition in
+        let c = e ∙ ap (openedBook s) (k ∙ ap (Sound signature) (sym (f .3))) in
+        j
+        ∙ ap (λ (x : Section). weighingAs (openedCheck ed s x header room b) (length (doses b))) (sym (f .2))
+        ∙ ap (λ (x : Section). weighingAs (openedCheck ed s (signatureAt s) x room b) (length (doses b))) (sym (f .3))
+        ∙ ap (λ (l : List ℕ). weighingAs (openedCheck ed s (signatureAt s) (headerAt s) room l) (length (doses l))) c
+        ∙ ap (λ (v : Verdict). weighingAs v (length (doses (bookOf s)))) (sym left)
 
-    module _ {signature header : Section} (k : r ≡ opened′.Sound signature header) where
-      sound : (soundCheck s ≡ Pass) × (signatureAt s ≡ signature) × (headerAt s ≡ header)
-      sound = opened-sound s (sym q ∙ k)
+-- no doses leave a buffer as it was
+no-dose : (l : List Dose) → length l ≡ 0 → l ≡ []
+no-dose [] h = refl
+no-dose (d ∷ l) h = absurd (omega arith)
 
-      pub small : length s ≤ 65536
-      small = sound-size s (sound .0)
+put-none : (form : Form) (b before : List ℕ) → length (doses b) ≡ 0 → before ≡ put form b before
+unfolding numbersOf numberBytes
+put-none Numbers b before h = rw (no-dose (doses b) h)
+put-none Bytes b before h = rw (no-dose (doses b) h)
 
-      module _ {w : Weighing}
-          (j : w ≡ weighingAs (openedCheck (editionOf edition) s signature header room) (length (doses (bookIn s header)))) where
-        here : w ≡ weighingAs (openedCheck (editionOf edition) s (signatureAt s) (headerAt s) room) (length (doses (bookOf s)))
-        here =
-            j ∙ ap (λ (x : Section). weighingAs (openedCheck (editionOf edition) s x header room) (length (doses (bookIn s header)))) (sym (sound .1))
-            ∙ ap (λ (x : Section). weighingAs (openedCheck (editionOf edition) s (signatureAt s) x room) (length (doses (bookIn s x)))) (sym (sound .2))
+-- the answer and the buffer: w is what was decided
+module _ (form : Form) (edition : ℕ) (s before : List ℕ) {w : Weighing} (p : w ≡ decided edition s (roomIn form before)) where
+  abbrev room : ℕ
+  room = roomIn form before
 
-        pub weighing-refused : {number place : ℕ} → w ≡ weighing.Refused number place → Refused number place ≡ decided edition s room
-        unfolding decided
-        weighing-refused e = rw (left ∙ both-pass (sound .0) ∙ unweighed _ _ (sym here ∙ e))
-
-        pub weighing-accepted : {count : ℕ} → w ≡ weighing.Doses count → Accepted count header ≡ decided edition s room
-        unfolding decided
-        weighing-accepted e =
-            let m = weighed _ _ (sym here ∙ e) in
-            rw (left ∙ both-pass (sound .0) ∙ m .0) (cc (m .1, sound .2))
-
--- what was decided says of the verdict
-accepted : (v : Verdict) (n : ℕ) (h : Section) {count : ℕ} {header : Section} → decidedAs v n h ≡ Accepted count header
-    → (v ≡ Pass) × (n ≡ count) × (h ≡ header)
-accepted Pass n h e = (refl, cc, cc)
-accepted (Fail number place) n h e = let z : _≡_ {A = ℕ} 0 1 = cc in absurd (omega arith)
-
-not-accepted : (v : Verdict) (n : ℕ) (h : Section) {number place : ℕ} → decidedAs v n h ≡ Refused number place → v ≡ Fail number place
-not-accepted Pass n h e = let z : _≡_ {A = ℕ} 0 1 = cc in absurd (omega arith)
-not-accepted (Fail number place) n h e = cc
-
--- the answer and the buffer, over the room that the buffer gives
-module _ (edition : ℕ) (s : List ℕ) (room : ℕ) {d : Decided} (p : d ≡ decided edition s room) where
-  refused-verdict : {number place : ℕ} → d ≡ Refused number place → readingCheck edition s room ≡ Fail number place
-  unfolding decided
-  refused-verdict h = not-accepted _ _ _ (sym p ∙ h)
-
-  accepted-verdict : {count : ℕ} {header : Section} → d ≡ Accepted count header
-      → (readingCheck edition s room ≡ Pass) × (length (doses (bookOf s)) ≡ count) × (headerAt s ≡ header)
-  unfolding decided
-  accepted-verdict h = accepted _ _ _ (sym p ∙ h)
-
-  pub refused-answer : {number place : ℕ} → d ≡ Refused number place → answer.Refused number place ≡ readAnswer edition s room
-  refused-answer h = rw (refused-verdict h)
-
-  pub accepted-answer : {count : ℕ} {header : Section} → d ≡ Accepted count header → answer.Done count ≡ readAnswer edition s room
-  accepted-answer h = let k = accepted-verdict h in rw (k .0) (ap answer.Done (sym (k .1)))
-
-  pub refused-buffer : {number place : ℕ} (before doses : List ℕ) → d ≡ Refused number place
-      → before ≡ afterAs (readingCheck edition s room) before doses
-  refused-buffer before doses h = rw (refused-verdict h)
-
-  pub accepted-buffer : {count : ℕ} {header : Section} (before : List ℕ) (with′ : List ℕ → List ℕ → List ℕ) {b after : List ℕ}
-      → d ≡ Accepted count header → b ≡ bookIn s header → after ≡ with′ b before
-      → after ≡ afterAs (readingCheck edition s room) before (with′ (bookOf s) before)
-  accepted-buffer before with′ h e k =
-      let j = accepted-verdict h in
-      rw (j .0) (k ∙ ap (λ (x : List ℕ). with′ x before) (e ∙ ap (bookIn s) (sym (j .2))))
-
--- the whole promise of a reading
-module _ (room : List ℕ → ℕ) (put : List ℕ → List ℕ → List ℕ) (edition : ℕ) (s before : List ℕ) {d : Decided}
-    (p : d ≡ decided edition s (room before)) where
-  pub read-refused : {number place : ℕ} → d ≡ Refused number place
-      → ReadInto room put edition s before (answer.Refused number place) before
-  unfolding leftIn
+  pub read-refused : {number place : ℕ} → w ≡ Refused number place
+      → ReadInto form edition s before (answer.Refused number place) before
+  unfolding decided leftIn
   read-refused h =
-      record {
-        answered = refused-answer edition s (room before) p h;
-        buffer = refused-buffer edition s (room before) p before (put (bookOf s) before) h;
-      }
+      let k = unweighed (readingCheck edition s room) _ (sym p ∙ h) in
+      record { answered = rw k; buffer = rw k }
 
-  pub read-accepted : {count : ℕ} {header : Section} {b after : List ℕ} → d ≡ Accepted count header → b ≡ bookIn s header
-      → after ≡ put b before → ReadInto room put edition s before (answer.Done count) after
-  unfolding leftIn
-  read-accepted h e k =
-      record {
-        answered = accepted-answer edition s (room before) p h;
-        buffer = accepted-buffer edition s (room before) p before put h e k;
-      }
+  module _ {count : ℕ} (h : w ≡ Doses count) where
+    passed : (readingCheck edition s room ≡ Pass) × (length (doses (bookOf s)) ≡ count)
+    unfolding decided
+    passed = weighed _ _ (sym p ∙ h)
+
+    answered : answer.Done count ≡ readAnswer edition s room
+    answered = let k = passed in rw (k .0) (ap answer.Done (sym (k .1)))
+
+    -- without doses nothing is written
+    pub read-none : count ≡ 0 → ReadInto form edition s before (answer.Done count) before
+    unfolding leftIn
+    read-none z =
+        let k = passed in
+        record { answered = answered; buffer = rw (k .0) (put-none form (bookOf s) before (k .1 ∙ z)) }
+
+    opened-here : openedAt edition s ≡ Sound (signatureAt s) (headerAt s)
+    unfolding openedAt readingCheck checksAt
+    opened-here =
+        let k = both-inverted _ _ (passed .0) in
+        let j = both-inverted _ _ (k .1) in
+        ap (λ (v : Verdict). openedAs v (signatureAt s) (headerAt s)) (both-pass (k .0) ∙ j .0)
+
+    pub read-accepted : {r : Opened} {b after : List ℕ} → r ≡ openedAt edition s → b ≡ openedBook s r
+        → after ≡ put form b before → ReadInto form edition s before (answer.Done count) after
+    unfolding leftIn
+    read-accepted q e k =
+        let b = e ∙ ap (openedBook s) (q ∙ opened-here) in
+        record {
+          answered = answered;
+          buffer = rw (passed .0) (k ∙ ap (λ (x : List ℕ). put form x before) b);
+        }

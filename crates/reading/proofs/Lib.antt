@@ -1,3 +1,4 @@
 pub mod OpenedLaws
 pub mod DecideLaws
 pub mod AnswerLaws
+pub mod ShownLaws

@@ -9,6 +9,7 @@ use mir.Syntax.{w32}
 use mir.Val.{Fits}
 use native.Mathlib.Omega.{arith}
 use borrow.Author.Tests.{eq-eqb, ne-eqb, le-leb, lt-leb, not-true, not-false}
+use Rattle.be.specs.Numbers.{be32At}
 use Rattle.format.specs.declared.places.Section.{Section}
 use Rattle.format.specs.declared.verdict.Verdict.{Verdict}
 use Rattle.format.specs.declared.verdict.Verdict.the-variants.{Pass, Fail}
@@ -19,28 +20,42 @@ use Rattle.index.specs.declared.Found.{Found}
 use Rattle.index.specs.declared.Found.the-variants.{At, Nothing}
 use Rattle.catalogue.specs.declared.Line.{Line}
 use Rattle.catalogue.specs.Catalogue.{inEdition, lineAt}
-use Rattle.tags.specs.Tags.{numberIn}
-use Rattle.index.specs.Lookup.{foundBytes}
-use Rattle.texts.specs.Texts.{entryIn}
+use Rattle.catalogue.specs.Words.{int32}
+use Rattle.index.specs.Lookup.{findIn}
+use Rattle.package.specs.declared.Opened.{Opened}
+use Rattle.package.specs.declared.Opened.the-variants.{Sound, Unsound}
+use Rattle.texts.specs.Texts.{foundBytes}
 use Rattle.rules.specs.Rules.{rulesCheck}
 use Rattle.book.specs.declared.Weighed.{Weighed}
 use Rattle.book.specs.declared.Weighed.the-variants as weighed′
-use Rattle.book.specs.Book.{bookTag}
 use Rattle.book.specs.Doses.{doses, weighed}
 use Rattle.book.proofs.PassLaws.{weighed-doses, weighed-unsound, few-doses}
 use Rattle.reading.specs.declared.opened.Weighing.{Weighing}
 use Rattle.reading.specs.declared.opened.Weighing.the-variants.{Doses, Refused}
 use Rattle.reading.specs.Editions.{editionOf, batchTag, batchLine}
-use Rattle.reading.specs.Reading.{bookIn, sumCheck, roomCheck, bookPart, openedCheck}
-use Rattle.reading.specs.Weighings.{weighingAs}
+use Rattle.reading.specs.Reading.{bookIn, weightIn, sumCheck, roomCheck, bookPart, openedCheck}
+use Rattle.reading.specs.Weighings.{openedBook, weighingAs}
 
--- the book, by what was found under its tag
-module _ (s : List ℕ) (header : Section) {f : Found} (p : f ≡ entryIn s header bookTag) where
-  pub book-here : {entry : Entry} {l : List ℕ} → f ≡ At entry → l ≡ take (entry .extent) (drop (entry .at .0) s) → l ≡ bookIn s header
-  book-here h k = k ∙ ap (foundBytes s) (sym h ∙ p)
+-- the bytes of what was found
+module _ (s : List ℕ) (section : Section) (tag ty : ℕ) {f : Found} (p : f ≡ findIn s section tag ty) where
+  pub found-here : {entry : Entry} {l : List ℕ} → f ≡ At entry → l ≡ take (entry .extent) (drop (entry .at .0) s)
+      → l ≡ foundBytes s (findIn s section tag ty)
+  found-here h k = k ∙ ap (foundBytes s) (sym h ∙ p)
 
-  pub no-book : f ≡ Nothing → [] ≡ bookIn s header
-  no-book h = ap (foundBytes s) (sym h ∙ p)
+  pub found-none : f ≡ Nothing → [] ≡ foundBytes s (findIn s section tag ty)
+  found-none h = ap (foundBytes s) (sym h ∙ p)
+
+-- the book of a package as it was opened
+module _ (s : List ℕ) {f : Opened} where
+  pub book-here : {signature header : Section} {l : List ℕ} → f ≡ Sound signature header → l ≡ bookIn s header → l ≡ openedBook s f
+  book-here h k = k ∙ ap (openedBook s) (sym h)
+
+  pub no-book : {number place : ℕ} → f ≡ Unsound number place → [] ≡ openedBook s f
+  no-book h = ap (openedBook s) (sym h)
+
+pub weight-at : (s : List ℕ) (header : Section) {l : List ℕ} {n : ℕ} → l ≡ foundBytes s (findIn s header batchTag int32)
+    → n ≡ be32At l 0 → n ≡ weightIn s header
+weight-at s header p q = q ∙ ap (λ (l : List ℕ). be32At l 0) p
 
 -- check 23, by whether the edition has the batch weight's line: b is the answer for the line that was read
 module _ (edition : ℕ) (s : List ℕ) (header : Section) (sum : ℕ) {line : Line} (p : line ≡ lineAt batchLine) {b : Bool}
@@ -49,17 +64,17 @@ module _ (edition : ℕ) (s : List ℕ) (header : Section) (sum : ℕ) {line : L
   unfolding sumCheck
   no-batch h = rw (sym (q ∙ ap (inEdition edition) p) ∙ not-true b h)
 
-  module _ (h : not b ≡ false) {n : ℕ} (k : n ≡ numberIn s header batchTag) where
+  module _ (h : not b ≡ false) {n : ℕ} (k : n ≡ weightIn s header) where
     has-batch : inEdition edition (lineAt batchLine) ≡ true
     has-batch = sym (q ∙ ap (inEdition edition) p) ∙ not-false b h
 
     pub batch-right : n ≡ sum → Pass ≡ sumCheck (editionOf edition) s header sum
     unfolding sumCheck check
-    batch-right e = rw (has-batch, eq-eqb (numberIn s header batchTag) sum (sym k ∙ e))
+    batch-right e = rw (has-batch, eq-eqb (weightIn s header) sum (sym k ∙ e))
 
     pub batch-wrong : (n ≡ sum → ⊥) → Fail 23 batchTag ≡ sumCheck (editionOf edition) s header sum
     unfolding sumCheck check
-    batch-wrong e = rw (has-batch, ne-eqb (numberIn s header batchTag) sum (λ j. e (k ∙ j)))
+    batch-wrong e = rw (has-batch, ne-eqb (weightIn s header) sum (λ j. e (k ∙ j)))
 
 -- checks 19 to 24, by what weighing the book found
 module _ (edition : ℕ) (s : List ℕ) (header : Section) (room : ℕ) (b : List ℕ) {w : Weighed} (p : w ≡ weighed edition b) where
@@ -99,16 +114,15 @@ module _ (edition : ℕ) (s : List ℕ) (header : Section) (room : ℕ) (b : Lis
           (ap Doses (weighed-doses edition b p h .1))
 
 -- checks 14 to 18 first
-module _ (edition : ℕ) (s : List ℕ) (signature header : Section) (room : ℕ) {v : Verdict}
+module _ (edition : ℕ) (s : List ℕ) (signature header : Section) (room : ℕ) (b : List ℕ) {v : Verdict}
     (p : v ≡ rulesCheck (inEdition edition) s (length s) signature header) where
   pub rules-refused : {number place : ℕ} → v ≡ Fail number place
-      → Refused number place ≡ weighingAs (openedCheck (editionOf edition) s signature header room) (length (doses (bookIn s header)))
+      → Refused number place ≡ weighingAs (openedCheck (editionOf edition) s signature header room b) (length (doses b))
   unfolding openedCheck
   rules-refused h = rw (both-fail _ (sym p ∙ h))
 
-  pub book-left-over : {r : Weighing} {b : List ℕ} → v ≡ Pass → b ≡ bookIn s header
+  pub book-left-over : {r : Weighing} → v ≡ Pass
       → r ≡ weighingAs (bookPart (editionOf edition) s header room b) (length (doses b))
-      → r ≡ weighingAs (openedCheck (editionOf edition) s signature header room) (length (doses (bookIn s header)))
+      → r ≡ weighingAs (openedCheck (editionOf edition) s signature header room b) (length (doses b))
   unfolding openedCheck
-  book-left-over h e k =
-      rw (both-pass {rest = bookPart (editionOf edition) s header room (bookIn s header)} (sym p ∙ h)) (rw e at k)
+  book-left-over h k = rw (both-pass {rest = bookPart (editionOf edition) s header room b} (sym p ∙ h)) k

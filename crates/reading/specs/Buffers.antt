@@ -3,15 +3,10 @@ use Prim.Native.Nat.{ℕ, _/_}
 use mathlib.Core.Path.{_≡_}
 use mathlib.Core.List.{List}
 use lib.ListN.{length}
-use Rattle.format.specs.declared.places.Section.{Section}
 use Rattle.format.specs.declared.verdict.Verdict.{Verdict}
 use Rattle.format.specs.declared.verdict.Verdict.the-variants.{Pass, Fail}
 use Rattle.format.specs.declared.verdict.Answer.{Answer}
-use Rattle.package.specs.Package.{headerAt}
-use Rattle.book.specs.Doses.{doses}
-use Rattle.buffer.specs.Buffer.{withDoses, withDoseBytes}
-use Rattle.reading.specs.declared.Decided.{Decided}
-use Rattle.reading.specs.declared.Decided.the-variants.{Accepted, Refused}
+use Rattle.buffer.specs.Buffer.{numberBytes, withDoses, withDoseBytes}
 use Rattle.reading.specs.Reading.{bookOf, readingCheck, readAnswer}
 
 -- a refused reading changes nothing; an accepted one puts its doses at the front
@@ -19,37 +14,45 @@ abbrev pub afterAs : Verdict → List ℕ → List ℕ → List ℕ
 afterAs Pass before doses = doses
 afterAs (Fail number place) before doses = before
 
--- a buffer that has room for so many numbers, where a book's doses are put so
-unfoldable pub leftIn : (List ℕ → ℕ) → (List ℕ → List ℕ → List ℕ) → ℕ → List ℕ → List ℕ → List ℕ
-leftIn room put edition s before = afterAs (readingCheck edition s (room before)) before (put (bookOf s) before)
+-- the forms of a dose buffer: numbers, and for C bytes, four to a number, big-endian, a remainder unused
+pub data Form : Type 0 where
+  Numbers : Form
+  Bytes : Form
 
--- the reading into such a buffer
-pub record ReadInto (room : List ℕ → ℕ) (put : List ℕ → List ℕ → List ℕ) (edition : ℕ) (s before : List ℕ) (answer : Answer)
-    (after : List ℕ) : Type 0 where
-  pub answered : answer ≡ readAnswer edition s (room before)
-  pub buffer : after ≡ leftIn room put edition s before
+-- for how many numbers a buffer has room
+abbrev pub roomIn : Form → List ℕ → ℕ
+roomIn Numbers before = length before
+roomIn Bytes before = length before / 4
 
--- a buffer of numbers
-abbrev pub bufferAfter : ℕ → List ℕ → List ℕ → List ℕ
-bufferAfter = leftIn length withDoses
+-- what numbers are in a buffer
+abbrev pub cells : Form → List ℕ → List ℕ
+cells Numbers numbers = numbers
+cells Bytes numbers = numberBytes numbers
+
+-- a buffer with a book's doses at its front
+abbrev pub put : Form → List ℕ → List ℕ → List ℕ
+put Numbers book before = withDoses book before
+put Bytes book before = withDoseBytes book before
+
+-- what a reading leaves in a buffer
+unfoldable pub leftIn : Form → ℕ → List ℕ → List ℕ → List ℕ
+leftIn form edition s before =
+    afterAs (readingCheck edition s (roomIn form before)) before (put form (bookOf s) before)
+
+-- the reading into a buffer
+pub record ReadInto (form : Form) (edition : ℕ) (s before : List ℕ) (answer : Answer) (after : List ℕ) : Type 0 where
+  pub answered : answer ≡ readAnswer edition s (roomIn form before)
+  pub buffer : after ≡ leftIn form edition s before
 
 abbrev pub Read : ℕ → List ℕ → List ℕ → Answer → List ℕ → Type 0
-Read = ReadInto length withDoses
-
--- a buffer of bytes, four to a number, a remainder unused
-abbrev pub numbersIn : List ℕ → ℕ
-numbersIn bytes = length bytes / 4
-
-abbrev pub bytesAfter : ℕ → List ℕ → List ℕ → List ℕ
-bytesAfter = leftIn numbersIn withDoseBytes
+Read = ReadInto Numbers
 
 abbrev pub ReadBytes : ℕ → List ℕ → List ℕ → Answer → List ℕ → Type 0
-ReadBytes = ReadInto numbersIn withDoseBytes
+ReadBytes = ReadInto Bytes
 
--- what is decided before anything is written: the dose count and the header, or the refusal
-abbrev pub decidedAs : Verdict → ℕ → Section → Decided
-decidedAs Pass count header = Accepted count header
-decidedAs (Fail number place) count header = Refused number place
+-- the buffer of bytes by itself
+abbrev pub numbersIn : List ℕ → ℕ
+numbersIn = roomIn Bytes
 
-unfoldable pub decided : ℕ → List ℕ → ℕ → Decided
-decided edition s room = decidedAs (readingCheck edition s room) (length (doses (bookOf s))) (headerAt s)
+abbrev pub bytesAfter : ℕ → List ℕ → List ℕ → List ℕ
+bytesAfter = leftIn Bytes

@@ -1,4 +1,5 @@
 pub mod Editions
 pub mod Reading
+pub mod Shown
 pub mod Weighings
 pub mod Buffers

@@ -4,6 +4,7 @@ use mathlib.Core.List.{List}
 use mathlib.Core.Bool.{cond}
 use lib.ListN.{length}
 use lib.Dec.{eqb, leb}
+use Rattle.be.specs.Numbers.{be32At}
 use Rattle.format.specs.declared.places.Section.{Section}
 use Rattle.format.specs.declared.verdict.Verdict.{Verdict}
 use Rattle.format.specs.declared.verdict.Verdict.the-variants.{Pass, Fail}
@@ -11,9 +12,9 @@ use Rattle.format.specs.declared.verdict.Answer.{Answer}
 use Rattle.format.specs.declared.verdict.Answer.the-variants.{Done, Refused}
 use Rattle.format.specs.Verdicts.{check, both}
 use Rattle.package.specs.Package.{soundCheck, signatureAt, headerAt}
-use Rattle.tags.specs.Tags.{numberIn}
-use Rattle.index.specs.Lookup.{foundBytes}
-use Rattle.texts.specs.Texts.{entryIn}
+use Rattle.index.specs.Lookup.{findIn}
+use Rattle.texts.specs.Texts.{foundBytes}
+use Rattle.catalogue.specs.Words.{int32, bin}
 use Rattle.rules.specs.Rules.{rulesCheck}
 use Rattle.book.specs.Book.{bookTag, bookCheck}
 use Rattle.book.specs.Doses.{doses, sumOf}
@@ -27,17 +28,21 @@ editionCheck edition =
     (check (leb edition 2) 1 0
     Pass)
 
--- the book: the bytes of the header's 20001
+-- the book: what a look-up in the header shows for 20001, bin
 abbrev pub bookIn : List ℕ → Section → List ℕ
-bookIn s header = foundBytes s (entryIn s header bookTag)
+bookIn s header = foundBytes s (findIn s header bookTag bin)
 
 abbrev pub bookOf : List ℕ → List ℕ
 bookOf s = bookIn s (headerAt s)
 
+-- the batch weight: the number that it shows for 20002, int32
+abbrev pub weightIn : List ℕ → Section → ℕ
+weightIn s header = be32At (foundBytes s (findIn s header batchTag int32)) 0
+
 -- 23 | sum isn't 20002's (edition 2) | 20002
 unfoldable pub sumCheck : Edition → List ℕ → Section → ℕ → Verdict
 sumCheck edition s header sum =
-    cond (hasBatch edition) (check (eqb (numberIn s header batchTag) sum) 23 batchTag Pass) Pass
+    cond (hasBatch edition) (check (eqb (weightIn s header) sum) 23 batchTag Pass) Pass
 
 -- 24 | dose buffer under 2 numbers per dose | numbers needed
 abbrev pub needed : List ℕ → ℕ
@@ -51,14 +56,14 @@ unfoldable pub bookPart : Edition → List ℕ → Section → ℕ → List ℕ 
 bookPart edition s header room book =
     both (bookCheck (edition .known) book) (both (sumCheck edition s header (sumOf (doses book))) (roomCheck room book))
 
--- 14 to 24 for a package's two structures
-unfoldable pub openedCheck : Edition → List ℕ → Section → Section → ℕ → Verdict
-openedCheck edition s signature header room =
-    both (rulesCheck (edition .hasLine) s (length s) signature header) (bookPart edition s header room (bookIn s header))
+-- 14 to 24 for a package's two structures and a book
+unfoldable pub openedCheck : Edition → List ℕ → Section → Section → ℕ → List ℕ → Verdict
+openedCheck edition s signature header room book =
+    both (rulesCheck (edition .hasLine) s (length s) signature header) (bookPart edition s header room book)
 
 -- 2 to 24 at an edition
 unfoldable pub checksAt : Edition → List ℕ → ℕ → Verdict
-checksAt edition s room = both (soundCheck s) (openedCheck edition s (signatureAt s) (headerAt s) room)
+checksAt edition s room = both (soundCheck s) (openedCheck edition s (signatureAt s) (headerAt s) room (bookOf s))
 
 -- 1 to 24, with room for so many numbers
 unfoldable pub readingCheck : ℕ → List ℕ → ℕ → Verdict

@@ -2,24 +2,16 @@
 ghost use mathlib.Core.Path.{_≡_};
 ghost use Prim.Native.Nat.{ℕ};
 ghost use lib.ListN.{length};
-ghost use Rattle.reading.specs.Editions.{editionOf};
-ghost use Rattle.reading.specs.Reading.{bookIn, editionCheck, readingCheck};
-ghost use Rattle.reading.specs.Buffers.{decided, decidedAs, Read, ReadBytes};
+ghost use Rattle.reading.specs.Reading.{editionCheck};
+ghost use Rattle.reading.specs.Weighings.{openedAt, openedBook, decided};
+ghost use Rattle.reading.specs.Buffers.{Read, ReadBytes};
 
 pub mod opened;
 
 use format::Answer;
-use format::Section;
 use format::Verdict;
 use opened::Weighing;
-use opened::book_part;
 use package::Opened;
-
-// What is decided before anything is written: the dose count and the header, or the refusal.
-pub enum Decided {
-    Accepted(u32, Section),
-    Refused(u32, u32),
-}
 
 // Check 1.
 fn edition_check(edition: u32) -> Verdict
@@ -34,23 +26,27 @@ fn edition_check(edition: u32) -> Verdict
     Verdict::Pass
 }
 
-// Checks 1 to 24, with room for so many numbers.
-fn decide(edition: u32, pkg: &[u8], room: usize) -> Decided
-    ensures { λ r. ⌜ r ≡ decided edition (now (pkg .entry)) room ⌝ }
+// Checks 1 to 13.
+fn open_at(edition: u32, pkg: &[u8]) -> Opened
+    ensures { λ r. ⌜ r ≡ openedAt edition (now (pkg .entry)) ⌝ }
 {
     let v = edition_check(edition);
     if let Verdict::Fail(number, place) = v {
-        return Decided::Refused(number, place);
+        return Opened::Unsound(number, place);
     }
-    let found = package::open(pkg);
+    package::open(pkg)
+}
+
+// Checks 14 to 24, with room for so many numbers, for a package and its book.
+fn decide(edition: u32, pkg: &[u8], found: Opened, bytes: &[u8], room: usize) -> Weighing
+    requires { ⌜ found ≡ openedAt edition (now pkg) ⌝ }
+    requires { ⌜ now bytes ≡ openedBook (now pkg) found ⌝ }
+    ensures { λ r. ⌜ r ≡ decided edition (now (pkg .entry)) room ⌝ }
+{
     match found {
-        Opened::Unsound(number, place) => Decided::Refused(number, place),
+        Opened::Unsound(number, place) => Weighing::Refused(number, place),
         Opened::Sound(signature, header) => {
-            let w = opened::weigh(edition, pkg, signature, header, room);
-            match w {
-                Weighing::Doses(count) => Decided::Accepted(count, header),
-                Weighing::Refused(number, place) => Decided::Refused(number, place),
-            }
+            opened::weigh(edition, pkg, signature, header, room, bytes)
         }
     }
 }
@@ -60,11 +56,16 @@ fn decide(edition: u32, pkg: &[u8], room: usize) -> Decided
 pub fn read(edition: u32, pkg: &[u8], doses: &mut [u32]) -> Answer
     ensures { λ r. ⌜ Read edition (now (pkg .entry)) (now (doses .entry)) r (now (doses .exit)) ⌝ }
 {
-    let found = decide(edition, pkg, doses.len());
-    match found {
-        Decided::Refused(number, place) => Answer::Refused(number, place),
-        Decided::Accepted(count, header) => {
-            buffer::write(book_part(pkg, header), doses);
+    let found = open_at(edition, pkg);
+    let bytes = opened::book_part(pkg, found);
+    let w = decide(edition, pkg, found, bytes, doses.len());
+    match w {
+        Weighing::Refused(number, place) => Answer::Refused(number, place),
+        Weighing::Doses(count) => {
+            if count == 0 {
+                return Answer::Done(count);
+            }
+            buffer::write(bytes, doses);
             Answer::Done(count)
         }
     }
@@ -74,11 +75,16 @@ pub fn read(edition: u32, pkg: &[u8], doses: &mut [u32]) -> Answer
 pub fn read_bytes(edition: u32, pkg: &[u8], doses: &mut [u8]) -> Answer
     ensures { λ r. ⌜ ReadBytes edition (now (pkg .entry)) (now (doses .entry)) r (now (doses .exit)) ⌝ }
 {
-    let found = decide(edition, pkg, doses.len() / 4);
-    match found {
-        Decided::Refused(number, place) => Answer::Refused(number, place),
-        Decided::Accepted(count, header) => {
-            buffer::write_bytes(book_part(pkg, header), doses);
+    let found = open_at(edition, pkg);
+    let bytes = opened::book_part(pkg, found);
+    let w = decide(edition, pkg, found, bytes, doses.len() / 4);
+    match w {
+        Weighing::Refused(number, place) => Answer::Refused(number, place),
+        Weighing::Doses(count) => {
+            if count == 0 {
+                return Answer::Done(count);
+            }
+            buffer::write_bytes(bytes, doses);
             Answer::Done(count)
         }
     }

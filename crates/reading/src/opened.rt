@@ -2,10 +2,12 @@
 ghost use mathlib.Core.Path.{_≡_};
 ghost use Prim.Native.Nat.{ℕ, _≤_};
 ghost use lib.ListN.{length};
+ghost use Rattle.index.specs.Lookup.{findIn};
+ghost use Rattle.texts.specs.Texts.{foundBytes};
 ghost use Rattle.book.specs.Doses.{doses};
 ghost use Rattle.reading.specs.Editions.{editionOf};
-ghost use Rattle.reading.specs.Reading.{bookIn, sumCheck, bookPart, openedCheck};
-ghost use Rattle.reading.specs.Weighings.{weighingAs};
+ghost use Rattle.reading.specs.Reading.{weightIn, sumCheck, bookPart, openedCheck};
+ghost use Rattle.reading.specs.Weighings.{openedBook, weighingAs};
 use book::Book;
 use book::Dose;
 use book::Weighed;
@@ -13,6 +15,7 @@ use catalogue::Line;
 use format::Section;
 use format::Verdict;
 use index::Found;
+use package::Opened;
 
 // The dose count of a package that passed its checks, or the first check that failed and its place.
 pub enum Weighing {
@@ -26,18 +29,43 @@ pub struct Batch {}
 impl Batch {
     pub const TAG: u32 = 20002;
 
+    pub const TYPE: u32 = 4;
+
     pub const LINE: usize = 81;
 }
 
-// The book of a header: the bytes of its 20001.
-pub(crate) fn book_part(pkg: &[u8], header: Section) -> &[u8]
-    ensures { λ r. ⌜ now r ≡ bookIn (now (pkg .entry)) header ⌝ }
+// The type of the book's entry: bin.
+pub struct BookEntry {}
+
+impl BookEntry {
+    pub const TYPE: u32 = 7;
+}
+
+pub(crate) fn find_in(pkg: &[u8], section: Section, tag: u32, ty: u32) -> &[u8]
+    ensures { λ r. ⌜ now r ≡ foundBytes (now (pkg .entry)) (findIn (now (pkg .entry)) section tag ty) ⌝ }
 {
-    let found = index::find_entry(pkg, header, Book::TAG);
+    let found = index::find(pkg, section, tag, ty);
     match found {
         Found::At(entry) => be::part(pkg, entry.at.0, entry.extent),
         Found::Nothing => &pkg[..0],
     }
+}
+
+// The book of a package: what a look-up in its header shows for 20001, bin; none where the package is unsound.
+pub(crate) fn book_part(pkg: &[u8], found: Opened) -> &[u8]
+    ensures { λ r. ⌜ now r ≡ openedBook (now (pkg .entry)) found ⌝ }
+{
+    match found {
+        Opened::Sound(_, header) => find_in(pkg, header, Book::TAG, BookEntry::TYPE),
+        Opened::Unsound(_, _) => &pkg[..0],
+    }
+}
+
+// The batch weight of a header: the number that a look-up shows for 20002, int32.
+fn weight(pkg: &[u8], header: Section) -> u32
+    ensures { λ r. ⌜ r ≡ weightIn (now (pkg .entry)) header ⌝ }
+{
+    be::be32(find_in(pkg, header, Batch::TAG, Batch::TYPE), 0)
 }
 
 // Check 23, for the sum of a book's doses.
@@ -47,7 +75,7 @@ fn sum_check(edition: u32, pkg: &[u8], header: Section, sum: u64) -> Verdict
     if !Line::at(Batch::LINE).in_edition(edition) {
         return Verdict::Pass;
     }
-    if tags::number(pkg, header, Batch::TAG) as u64 == sum {
+    if weight(pkg, header) as u64 == sum {
         return Verdict::Pass;
     }
     Verdict::Fail(23, Batch::TAG)
@@ -74,20 +102,21 @@ fn weigh_book(edition: u32, pkg: &[u8], header: Section, room: usize, bytes: &[u
     }
 }
 
-// Checks 14 to 24 for a package's two structures.
+// Checks 14 to 24 for a package's two structures and its book.
 pub(crate) fn weigh(
     edition: u32,
     pkg: &[u8],
     signature: Section,
     header: Section,
     room: usize,
+    bytes: &[u8],
 ) -> Weighing
     requires { ⌜ length (now pkg) ≤ 65536 ⌝ }
-    ensures { λ r. ⌜ r ≡ weighingAs (openedCheck (editionOf edition) (now (pkg .entry)) signature header room) (length (doses (bookIn (now (pkg .entry)) header))) ⌝ }
+    ensures { λ r. ⌜ r ≡ weighingAs (openedCheck (editionOf edition) (now (pkg .entry)) signature header room (now (bytes .entry))) (length (doses (now (bytes .entry)))) ⌝ }
 {
     let v = rules::check(edition, pkg, pkg.len() as u32, signature, header);
     if let Verdict::Fail(number, place) = v {
         return Weighing::Refused(number, place);
     }
-    weigh_book(edition, pkg, header, room, book_part(pkg, header))
+    weigh_book(edition, pkg, header, room, bytes)
 }

@@ -1,4 +1,5 @@
 -- Each reading keeps its promise, and the two agree by demand 3. Assumes nothing.
+use Rattle.reading.specs.Buffers.{Numbers}
 use Rattle.demands.proofs.BothLaws as laws
 use borrow.Author.Needs.{needs}
 use Rattle.demands.proofs.read_both.Statement.{statement}
@@ -17,7 +18,7 @@ same-length-2 : tie.Need-same-length-2
 same-length-2 c = search needs
 
 returns : tie.Need-returns
-returns c = laws.read-both _ _ _ (search) (search)
+returns c = laws.read-both Numbers _ _ _ (search) (search)
 
 pub read-both-spec : {M : Type 1} → statement M
 read-both-spec =

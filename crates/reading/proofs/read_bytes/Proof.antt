@@ -1,44 +1,51 @@
 -- What was decided gives the answer, and what is written then the buffer. Assumes nothing.
-use Rattle.buffer.specs.Buffer.{withDoseBytes}
-use Rattle.reading.specs.Buffers.{numbersIn}
+use Rattle.reading.specs.Buffers.{Form}
 use Rattle.reading.proofs.DecideLaws as laws
 use borrow.Author.Needs.{needs}
 use Rattle.reading.proofs.read_bytes.Statement.{statement}
 use Rattle.reading.proofs.read_bytes.Tie as tie
 
-decide-requires : tie.Need-decide-requires
-decide-requires c κs = search needs
-
-enum-known-found : tie.Need-enum-known-found
-enum-known-found c = search needs
-
-enum-known-found-2 : tie.Need-enum-known-found-2
-enum-known-found-2 c = search needs
+open-at-requires : tie.Need-open-at-requires
+open-at-requires c κs = search needs
 
 book-part-requires : tie.Need-book-part-requires
 book-part-requires c κs = search needs
 
+decide-requires : tie.Need-decide-requires
+decide-requires c κs = search needs
+
+enum-known-w : tie.Need-enum-known-w
+enum-known-w c = search needs
+
+enum-known-w-2 : tie.Need-enum-known-w-2
+enum-known-w-2 c = search needs
+
+returns : tie.Need-returns
+returns c = search (laws.read-none Form.Bytes)
+
 write-bytes-requires : tie.Need-write-bytes-requires
 write-bytes-requires c κs = search needs
 
-returns : tie.Need-returns
-returns c = laws.read-refused numbersIn withDoseBytes _ _ _ (search) (c .before .found .given .1)
+returns-2 : tie.Need-returns-2
+returns-2 c = search (laws.read-refused Form.Bytes)
 
 same-length : tie.Need-same-length
 same-length c = search needs
 
-returns-2 : tie.Need-returns-2
-returns-2 c = laws.read-accepted numbersIn withDoseBytes _ _ _ (search) (c .before .before .before .before .before .before .found2 .given .1) (c .before .before .before .before .book-part .ensures) (c .before .before .write-bytes .ensures)
+returns-3 : tie.Need-returns-3
+returns-3 c = search (laws.read-accepted Form.Bytes)
 
 pub read-bytes-spec : {M : Type 1} → statement M
 read-bytes-spec =
     tie.close
     (tie.spec
-    decide-requires
-    enum-known-found
-    enum-known-found-2
+    open-at-requires
     book-part-requires
-    write-bytes-requires
+    decide-requires
+    enum-known-w
+    enum-known-w-2
     returns
+    write-bytes-requires
+    returns-2
     same-length
-    returns-2)
+    returns-3)

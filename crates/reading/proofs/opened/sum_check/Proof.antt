@@ -13,8 +13,8 @@ in-edition-requires c κs = search needs
 returns : tie.Need-returns
 returns c = search laws.no-batch
 
-number-requires : tie.Need-number-requires
-number-requires c κs = search needs
+weight-requires : tie.Need-weight-requires
+weight-requires c κs = search needs
 
 cast-if2 : tie.Need-cast-if2
 cast-if2 c = search needs
@@ -28,4 +28,4 @@ returns-3 c = search laws.batch-wrong
 pub sum-check-spec : {M : Type 1} → statement M
 sum-check-spec =
     tie.close
-    (tie.spec at-requires in-edition-requires returns number-requires cast-if2 returns-2 returns-3)
+    (tie.spec at-requires in-edition-requires returns weight-requires cast-if2 returns-2 returns-3)

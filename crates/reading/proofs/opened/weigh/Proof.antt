@@ -19,9 +19,6 @@ returns c = search laws.rules-refused
 enum-told : tie.Need-enum-told
 enum-told c = search needs
 
-book-part-requires : tie.Need-book-part-requires
-book-part-requires c κs = search needs
-
 weigh-book-requires : tie.Need-weigh-book-requires
 weigh-book-requires c κs = search needs
 
@@ -37,6 +34,5 @@ weigh-spec =
     enum-known-v
     returns
     enum-told
-    book-part-requires
     weigh-book-requires
     returns-2)
