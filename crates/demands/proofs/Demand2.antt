@@ -12,7 +12,7 @@ use Rattle.format.specs.Sizes.{packageLimit, leadSize}
 use Rattle.format.specs.Places.{sectionEnd}
 use Rattle.structure.specs.Structure.{sectionAt}
 use Rattle.package.specs.Package.{alignUp, headerStart, signatureAt, headerAt}
-use Rattle.rules.specs.Rules.{rulesCheck}
+use Rattle.rules.specs.Rules.{rulesOver, rulesCheck}
 use Rattle.book.specs.Doses.{doses, sumOf}
 use Rattle.reading.specs.Editions.{Edition, editionOf, batchTag, hasBatch}
 use Rattle.reading.specs.Reading.{editionCheck, bookIn, bookOf, needed, roomCheck, bookPart, openedCheck, checksAt}
@@ -60,7 +60,7 @@ module _ (edition : Edition) (s : List ℕ) where
   -- 14 to 18
   rules-lawful : (start : ℕ) → Keeps edition → Apart s (signatureAt s) → LawfulStructure s start
       → (rulesCheck (edition .hasLine) s (length s) (signatureAt s) (sectionAt s start) ≡ Pass) ↔ Ruled start
-  unfolding rulesCheck
+  unfolding rulesOver
   rules-lawful start keeps apart lawful =
       let apart′ = lawful .tags in
       let signature = signatureAt s in

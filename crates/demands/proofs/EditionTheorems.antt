@@ -14,8 +14,9 @@ use Rattle.format.specs.Verdicts.{check, both}
 use Rattle.format.proofs.VerdictLaws.{both-fail, both-inverted}
 use Rattle.package.specs.Package.{soundCheck, signatureAt, headerAt}
 use Rattle.catalogue.specs.Catalogue.{lineAt, signatureCount, lineCount}
+use Rattle.index.specs.Lookup.{taggedIn}
 use Rattle.lines.specs.Lines.{linesFrom, linesCheck}
-use Rattle.rules.specs.Rules.{rulesCheck}
+use Rattle.rules.specs.Rules.{rulesOver, rulesCheck}
 use Rattle.book.specs.Book.{places, bookCheck}
 use Rattle.book.specs.Doses.{doses, sumOf}
 use Rattle.reading.specs.Editions.{Edition, Extends, hasBatch, batchTag, batchLine}
@@ -47,7 +48,7 @@ module _ (earlier later : Edition) (extends : Extends earlier later) (b : List �
 
   module _ (s : List ℕ) where
     lines-agree : (section : Section) (n i : ℕ)
-        → Alike earlier later b (linesFrom lineAt (earlier .hasLine) s section n i) (linesFrom lineAt (later .hasLine) s section n i)
+        → Alike earlier later b (linesFrom lineAt (earlier .hasLine) (taggedIn s section) n i) (linesFrom lineAt (later .hasLine) (taggedIn s section) n i)
     unfolding linesFrom
     lines-agree section zero i = inl refl
     lines-agree section (suc n) i =
@@ -62,7 +63,7 @@ module _ (earlier later : Edition) (extends : Extends earlier later) (b : List �
 
     rules-agree : (len : ℕ) (signature header : Section)
         → Alike earlier later b (rulesCheck (earlier .hasLine) s len signature header) (rulesCheck (later .hasLine) s len signature header)
-    unfolding rulesCheck linesCheck
+    unfolding rulesOver linesCheck
     rules-agree len signature header =
         run _ _ _ _ (run _ _ _ _ (lines-agree signature signatureCount 0) (lines-agree header (lineCount - signatureCount) signatureCount)) (inl refl)
 

@@ -51,7 +51,7 @@ module _ (s : List ℕ) (section : Section) (apart : Apart s section) (tag : ℕ
   found-iff Asked Rule f none = record-iff Asked Rule (λ i l t. f (recordAt s section i) (i, l, t)) none
 
   pub number-iff : (n : ℕ) → HasTag s section tag
-      → (numberIn s section tag ≡ n) ↔ NumberIs s section tag n
+      → (numberIn s section (taggedIn s section) tag ≡ n) ↔ NumberIs s section tag n
   number-iff n h =
       found-iff (λ (t : Tagged). numberAt s section t ≡ n)
       (λ (e : IndexRecord). be32At s (inFile section (e .offset)) ≡ n) (λ e k. Iff·rfl) (inr h)
@@ -67,21 +67,21 @@ module _ (s : List ℕ) (section : Section) (apart : Apart s section) (tag : ℕ
       let e = same-record s section tag apart (g .0) i (omega arith) l (w .0 ∙ sym t) in
       f .1 ∙ ap At (g .4 ∙ ap (entryAt s section) e)
 
-  pub count-iff : (n : ℕ) → HasTag s section tag → (countIn s section tag ≡ n) ↔ HasCount s section tag n
+  pub count-iff : (n : ℕ) → HasTag s section tag → (countIn (taggedIn s section) tag ≡ n) ↔ HasCount s section tag n
   count-iff n h = found-iff (λ (t : Tagged). countOf t ≡ n) (λ (e : IndexRecord). e .count ≡ n) (λ e k. Iff·rfl) (inr h)
 
-  pub counted-iff : (n : ℕ) → (has s section tag ≡ true → countIn s section tag ≡ n) ↔ HasCount s section tag n
+  pub counted-iff : (n : ℕ) → (has (taggedIn s section) tag ≡ true → countIn (taggedIn s section) tag ≡ n) ↔ HasCount s section tag n
   counted-iff n =
       found-iff (λ (t : Tagged). isPresent t ≡ true → countOf t ≡ n) (λ (e : IndexRecord). e .count ≡ n)
       (λ e k. (λ h. h refl, λ h q. h)) (inl (λ q. absurd (false≢true q)))
 
   pub below-count-iff : (n : ℕ) → HasTag s section tag
-      → (n < countIn s section tag) ↔ WhereTagged s section tag (λ (e : IndexRecord). n < e .count)
+      → (n < countIn (taggedIn s section) tag) ↔ WhereTagged s section tag (λ (e : IndexRecord). n < e .count)
   below-count-iff n h =
       found-iff (λ (t : Tagged). n < countOf t) (λ (e : IndexRecord). n < e .count) (λ e k. Iff·rfl) (inr h)
 
   pub same-count-iff : (other : ℕ) → HasTag s section tag
-      → HasCount s section other (countIn s section tag) ↔ SameCount s section other tag
+      → HasCount s section other (countIn (taggedIn s section) tag) ↔ SameCount s section other tag
   same-count-iff other h =
       found-iff (λ (t : Tagged). HasCount s section other (countOf t))
       (λ (e : IndexRecord). HasCount s section other (e .count)) (λ e k. Iff·rfl) (inr h)

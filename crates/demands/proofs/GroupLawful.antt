@@ -7,9 +7,12 @@ use mathlib.Core.List.{List, [], _∷_}
 use mathlib.Core.Bool.{Bool, true, false, and-eq-true-iff}
 use Rattle.format.specs.declared.places.Section.{Section}
 use Rattle.format.specs.declared.verdict.Verdict.the-variants.{Pass}
+use Rattle.index.specs.Lookup.{taggedIn}
 use Rattle.tags.specs.Tags.{has, countIn}
-use Rattle.groups.specs.Groups.{needsCheck, countCheck, countsCheck, signaturePairs, scriptPairs}
-use Rattle.groups.specs.Groups.{oldNamesRight, newNamesCheck, namesCheck, ledGroups, groupsCheck}
+use Rattle.files.specs.Files.{countCheck, countsCheck}
+use Rattle.groups.specs.Groups.{needsCheck, signaturePairs, scriptPairs}
+use Rattle.files.specs.Files.{oldNamesRight, newNamesCheck, namesCheck}
+use Rattle.groups.specs.Groups.{ledGroups, groupsCheck}
 use Rattle.demands.specs.Lawful.{HasTag, SameCount, Needs, Each, LawfulGroups}
 use Rattle.demands.proofs.PassIff.{check-iff, last-iff, both-iff, eqb-iff, choice-iff, unless-iff, not-iff}
 use Rattle.demands.proofs.TagLawful.{has-tag, lacks-tag}
@@ -17,19 +20,19 @@ use Rattle.demands.proofs.FoundLawful.{Apart, counted-iff, same-count-i
 use Rattle.demands.proofs.LedLawful.{same-lawful, first-led, second-led}
 
 needs-lawful : (s : List ℕ) (section : Section) (tag other : ℕ)
-    → (needsCheck s section tag other ≡ Pass) ↔ Needs s section tag other
+    → (needsCheck (taggedIn s section) tag other ≡ Pass) ↔ Needs s section tag other
 unfolding needsCheck
 needs-lawful s section tag other = simp (last-iff, unless-iff, has-tag) Iff·rfl
 
 -- counts that equal that of a tag that is present
 module _ (s : List ℕ) (header : Section) (apart : Apart s header) (leader : ℕ) (led : HasTag s header leader) where
-  count-lawful : (tag : ℕ) → (countCheck s header (countIn s header leader) tag ≡ Pass) ↔ SameCount s header tag leader
+  count-lawful : (tag : ℕ) → (countCheck (taggedIn s header) (countIn (taggedIn s header) leader) tag ≡ Pass) ↔ SameCount s header tag leader
   unfolding countCheck
   count-lawful tag =
       simp (last-iff, unless-iff, eqb-iff, counted-iff s header apart, same-count-iff s header apart leader) Iff·rfl
 
   counts-lawful : (tags : List ℕ)
-      → (countsCheck s header (countIn s header leader) tags ≡ Pass)
+      → (countsCheck (taggedIn s header) (countIn (taggedIn s header) leader) tags ≡ Pass)
       ↔ Each tags (λ (tag : ℕ). SameCount s header tag leader)
   unfolding countsCheck
   counts-lawful [] = (λ h. tt, λ h. refl)
@@ -47,13 +50,13 @@ NewNames s header =
     × SameCount s header 1116 1028 × SameCount s header 1117 1028
 
 module _ (s : List ℕ) (header : Section) (apart : Apart s header) (led : HasTag s header 1028) where
-  old-lawful : HasTag s header 1027 → (oldNamesRight s header (countIn s header 1028) ≡ true) ↔ OldNames s header
+  old-lawful : HasTag s header 1027 → (oldNamesRight (taggedIn s header) (countIn (taggedIn s header) 1028) ≡ true) ↔ OldNames s header
   unfolding oldNamesRight
   old-lawful h =
       simp (and-eq-true-iff, not-iff, has-tag, same-lawful s header apart 1028 led 1027)
       (λ k. (k .0 .0 .0, k .0 .0 .1, k .0 .1, k .1), λ k. (((k .0, k .1), k .2), k .3))
 
-  new-lawful : (newNamesCheck s header (countIn s header 1028) ≡ Pass) ↔ NewNames s header
+  new-lawful : (newNamesCheck (taggedIn s header) (countIn (taggedIn s header) 1028) ≡ Pass) ↔ NewNames s header
   unfolding newNamesCheck
   new-lawful =
       let names = same-lawful s header apart 1028 led 1116 in
@@ -63,7 +66,7 @@ module _ (s : List ℕ) (header : Section) (apart : Apart s header) (led : HasTa
         λ h. (h .0, (h .1, (h .2, (names (h .0) .1 (h .3), (bases (h .1) .1 (h .4), refl))))),
       )
 
-  names-lawful : (namesCheck s header (countIn s header 1028) ≡ Pass)
+  names-lawful : (namesCheck (taggedIn s header) (countIn (taggedIn s header) 1028) ≡ Pass)
       ↔ ((HasTag s header 1027 → OldNames s header) × ((HasTag s header 1027 → ⊥) → NewNames s header))
   unfolding namesCheck
   names-lawful =
@@ -71,7 +74,7 @@ module _ (s : List ℕ) (header : Section) (apart : Apart s header) (led : HasTa
       (λ h. (λ k. old-lawful k .0 (h .0 k), h .1), λ h. (λ k. old-lawful k .1 (h .0 k), h .1))
 
 pub groups-lawful : (s : List ℕ) (signature header : Section) → Apart s header → HasTag s header 1028
-    → (groupsCheck s signature header ≡ Pass) ↔ LawfulGroups s signature header
+    → (groupsCheck (taggedIn s signature) (taggedIn s header) ≡ Pass) ↔ LawfulGroups s signature header
 unfolding groupsCheck signaturePairs scriptPairs ledGroups
 groups-lawful s signature header apart led =
     simp (
@@ -115,8 +118,8 @@ groups-lawful s signature header apart led =
 
 pub directories-there : (s : List ℕ) (signature header : Section) → LawfulGroups s signature header
     → HasTag s header 1116 → HasTag s header 1118
-directories-there s signature header groups h = go (has s header 1027) refl
+directories-there s signature header groups h = go (has (taggedIn s header) 1027) refl
   where
-    go : (b : Bool) → has s header 1027 ≡ b → HasTag s header 1118
+    go : (b : Bool) → has (taggedIn s header) 1027 ≡ b → HasTag s header 1118
     go true q = absurd (groups .oldNames (has-tag s header 1027 .0 q) .1 h)
     go false q = groups .newNames (lacks-tag s header 1027 .0 q) .2

@@ -8,6 +8,7 @@ use mathlib.Core.Bool.{true, _||_}
 use lib.Dec.{eqb}
 use Rattle.format.specs.declared.places.Section.{Section}
 use Rattle.format.specs.declared.verdict.Verdict.the-variants.{Pass}
+use Rattle.index.specs.Lookup.{taggedIn}
 use Rattle.tags.specs.Tags.{has, countIn}
 use Rattle.groups.specs.Groups.{wholeCheck, ledCheck}
 use Rattle.demands.specs.Lawful.{HasTag, SameCount, LawfulLed}
@@ -18,7 +19,7 @@ use Rattle.demands.proofs.FoundLawful.{Apart, count-iff, same-count-iff
 -- a count that equals that of a tag that is present
 pub same-lawful : (s : List ℕ) (header : Section) → Apart s header
     → (leader : ℕ) → HasTag s header leader → (tag : ℕ) → HasTag s header tag
-    → (eqb (countIn s header tag) (countIn s header leader) ≡ true) ↔ SameCount s header tag leader
+    → (eqb (countIn (taggedIn s header) tag) (countIn (taggedIn s header) leader) ≡ true) ↔ SameCount s header tag leader
 same-lawful s header apart leader led tag h =
     simp (eqb-iff, count-iff s header apart tag, same-count-iff s header apart leader) Iff·rfl
 
@@ -33,7 +34,7 @@ abbrev SameAs : List ℕ → Section → ℕ → ℕ → ℕ → ℕ → Type 0
 SameAs s header leader a b c = SameCount s header a leader × SameCount s header b leader × SameCount s header c leader
 
 one-lawful : (s : List ℕ) (header : Section) (a b c : ℕ)
-    → ((has s header a || has s header b || has s header c) ≡ true) ↔ OneOf s header a b c
+    → ((has (taggedIn s header) a || has (taggedIn s header) b || has (taggedIn s header) c) ≡ true) ↔ OneOf s header a b c
 one-lawful s header a b c =
     simp one-iff (
       ⊎-map (has-tag s header a .0) (⊎-map (has-tag s header b .0) (has-tag s header c .0)),
@@ -42,7 +43,7 @@ one-lawful s header a b c =
 
 module _ (s : List ℕ) (header : Section) (apart : Apart s header) (leader a b c : ℕ)
     (lead : AllOf s header a b c → HasTag s header leader) where
-  whole-lawful : (wholeCheck s header (countIn s header leader) a b c ≡ Pass)
+  whole-lawful : (wholeCheck (taggedIn s header) (countIn (taggedIn s header) leader) a b c ≡ Pass)
       ↔ (AllOf s header a b c × SameAs s header leader a b c)
   unfolding wholeCheck
   whole-lawful =
@@ -58,7 +59,7 @@ module _ (s : List ℕ) (header : Section) (apart : Apart s header) (leader a b 
       )
 
   led-lawful : (HasTag s header leader → OneOf s header a b c)
-      → (ledCheck s header leader a b c ≡ Pass) ↔ LawfulLed s header leader a b c
+      → (ledCheck (taggedIn s header) leader a b c ≡ Pass) ↔ LawfulLed s header leader a b c
   unfolding ledCheck
   led-lawful one =
       simp (cond-iff, one-lawful, whole-lawful) (
@@ -75,9 +76,9 @@ module _ (s : List ℕ) (header : Section) (apart : Apart s header) (leader a b 
 
 -- the leader stands first or second
 pub first-led : (s : List ℕ) (header : Section) → Apart s header → (a b c : ℕ)
-    → (ledCheck s header a a b c ≡ Pass) ↔ LawfulLed s header a a b c
+    → (ledCheck (taggedIn s header) a a b c ≡ Pass) ↔ LawfulLed s header a a b c
 first-led s header apart a b c = led-lawful s header apart a a b c (λ h. h .0) inl
 
 pub second-led : (s : List ℕ) (header : Section) → Apart s header → (a b c : ℕ)
-    → (ledCheck s header b a b c ≡ Pass) ↔ LawfulLed s header b a b c
+    → (ledCheck (taggedIn s header) b a b c ≡ Pass) ↔ LawfulLed s header b a b c
 second-led s header apart a b c = led-lawful s header apart b a b c (λ h. h .1) (λ h. inr (inl h))

@@ -38,17 +38,17 @@ line-refusal line (Present e) = sorted (tried (isAsLine line (e .ty) (e .count))
 module _ (earlier later : Line → Bool) (keeps : (line : Line) → earlier line ≡ true → later line ≡ true) where
   -- one line: alike, or added and refused
   pub line-agrees : (s : List ℕ) (section : Section) (line : Line)
-      → (lineIf earlier s section line ≡ lineIf later s section line)
+      → (lineIf earlier (taggedIn s section) line ≡ lineIf later (taggedIn s section) line)
       ⊎ ((earlier line ≡ false) × (later line ≡ true)
-      × ((lineIf later s section line ≡ Fail 14 (line .tag)) ⊎ (lineIf later s section line ≡ Fail 15 (line .tag))))
+      × ((lineIf later (taggedIn s section) line ≡ Fail 14 (line .tag)) ⊎ (lineIf later (taggedIn s section) line ≡ Fail 15 (line .tag))))
   line-agrees s section line = go (earlier line) (later line) refl refl (keeps line) (line-refusal line (taggedIn s section (line .tag)))
     where
       go : (x y : Bool) → earlier line ≡ x → later line ≡ y → (earlier line ≡ true → later line ≡ true)
-          → (lineCheck s section line ≡ Pass)
-          ⊎ ((lineCheck s section line ≡ Fail 14 (line .tag)) ⊎ (lineCheck s section line ≡ Fail 15 (line .tag)))
-          → (cond x (lineCheck s section line) Pass ≡ cond y (lineCheck s section line) Pass)
+          → (lineCheck (taggedIn s section) line ≡ Pass)
+          ⊎ ((lineCheck (taggedIn s section) line ≡ Fail 14 (line .tag)) ⊎ (lineCheck (taggedIn s section) line ≡ Fail 15 (line .tag)))
+          → (cond x (lineCheck (taggedIn s section) line) Pass ≡ cond y (lineCheck (taggedIn s section) line) Pass)
           ⊎ ((x ≡ false) × (y ≡ true)
-          × ((cond y (lineCheck s section line) Pass ≡ Fail 14 (line .tag)) ⊎ (cond y (lineCheck s section line) Pass ≡ Fail 15 (line .tag))))
+          × ((cond y (lineCheck (taggedIn s section) line) Pass ≡ Fail 14 (line .tag)) ⊎ (cond y (lineCheck (taggedIn s section) line) Pass ≡ Fail 15 (line .tag))))
       go true true e l k q = inl refl
       go true false e l k q = let z : _≡_ {A = Bool} false true = sym l ∙ k e in let y : _≡_ {A = ℕ} 0 1 = cc in absurd (omega arith)
       go false true e l k (inl h) = inl (sym h)

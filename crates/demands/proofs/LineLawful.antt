@@ -52,12 +52,12 @@ module _ (s : List ℕ) (section : Section) (apart : Apart s section) where
             tagged-absent s section (line .tag) q (f .0) (f .1) (f .2),
       )
 
-  line-lawful : (line : Line) → (lineCheck s section line ≡ Pass) ↔ LawfulLine s section line
+  line-lawful : (line : Line) → (lineCheck (taggedIn s section) line ≡ Pass) ↔ LawfulLine s section line
   line-lawful line = line-found line (taggedIn s section (line .tag)) refl
 
   -- n lines from number i on
   from-lawful : (hasLine : Line → Bool) (n i : ℕ)
-      → (linesFrom lineAt hasLine s section n i ≡ Pass)
+      → (linesFrom lineAt hasLine (taggedIn s section) n i ≡ Pass)
       ↔ ((j : ℕ) → i ≤ j → j < i + n → hasLine (lineAt j) ≡ true → LawfulLine s section (lineAt j))
   unfolding linesFrom
   from-lawful hasLine zero i = (λ h j l m. absurd (omega arith), λ h. refl)
@@ -68,7 +68,7 @@ module _ (s : List ℕ) (section : Section) (apart : Apart s section) where
       )
 
 pub lines-lawful : (edition : Edition) (s : List ℕ) (signature header : Section) → Apart s signature → Apart s header
-    → (linesCheck (edition .hasLine) s signature header ≡ Pass) ↔ LawfulLines edition s signature header
+    → (linesCheck (edition .hasLine) (taggedIn s signature) (taggedIn s header) ≡ Pass) ↔ LawfulLines edition s signature header
 unfolding linesCheck
 lines-lawful edition s signature header apart apart′ =
     simp (both-iff, from-lawful s signature apart, from-lawful s header apart′) (

@@ -16,9 +16,9 @@ use Rattle.format.specs.Places.{inFile}
 use Rattle.entries.specs.Types.{elementSize}
 use Rattle.entries.specs.Entries.{recordAt}
 use Rattle.index.specs.declared.Found.{Found}
-use Rattle.index.specs.Lookup.{entryAt}
+use Rattle.index.specs.Lookup.{taggedIn, entryAt}
 use Rattle.structure.specs.Structure.{sectionAt}
-use Rattle.texts.specs.Texts.{foundBytes}
+use Rattle.index.specs.Lookup.{foundBytes}
 use Rattle.catalogue.specs.declared.Line.{Line}
 use Rattle.catalogue.specs.Catalogue.{signatureLines, headerLines, catalogue, lineAt, inEdition}
 use Rattle.rules.specs.Rules.{sizeTagCheck}
@@ -79,7 +79,7 @@ module _ (edition : Edition) (s : List ℕ) (signature header : Section) (lines 
 
 -- 16
 pub size-lawful : (s : List ℕ) (len : ℕ) (signature header : Section) → Apart s signature → HasTag s signature 1000
-    → (sizeTagCheck s len signature header ≡ Pass)
+    → (sizeTagCheck s len signature header (taggedIn s signature) ≡ Pass)
     ↔ NumberIs s signature 1000 (len - header .start)
 unfolding sizeTagCheck
 size-lawful s len signature header apart h = simp (last-iff, eqb-iff, number-iff s signature apart 1000) Iff·rfl

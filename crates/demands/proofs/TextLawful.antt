@@ -22,7 +22,7 @@ use Rattle.entries.specs.declared.types.ElementSize.the-variants.{ToZero}
 use Rattle.entries.specs.Types.{elementSize}
 use Rattle.entries.specs.Entries.{recordAt}
 use Rattle.index.specs.declared.Tagged.{Tagged}
-use Rattle.index.specs.Lookup.{entryAt, entryFor}
+use Rattle.index.specs.Lookup.{taggedIn, entryAt, entryFor}
 use Rattle.structure.specs.Structure.{sectionAt}
 use Rattle.structure.specs.Sound.{SoundEntry}
 use Rattle.tags.specs.Tags.{countIn}
@@ -157,23 +157,23 @@ module _ (s : List ℕ) (start : ℕ) (lawful : LawfulStructure s start) where
         (rows-lawful s (recordAt s header i .count) extent at (rows 8 eight-strings p) (sound .inside))
 
   text-lawful : (text : List ℕ) → nonzero text ≡ true → (tag : ℕ) → OneString s header tag
-      → (textIs s header (text ++ 0 ∷ []) tag ≡ true) ↔ TextIs s header tag (text ++ 0 ∷ [])
+      → (textIs s header (taggedIn s header) (text ++ 0 ∷ []) tag ≡ true) ↔ TextIs s header tag (text ++ 0 ∷ [])
   text-lawful text w tag one =
       record-iff s header apart tag
       (λ (t : Tagged). foundText s (text ++ 0 ∷ []) (entryFor s header t) ≡ true)
       (λ (e : IndexRecord). take (length (text ++ 0 ∷ [])) (drop (inFile header (e .offset)) s) ≡ text ++ 0 ∷ [])
       (λ i l t. text-at i l text (whole text w) (one .0 i l t) (one .1 i l t)) (inl refl)
 
-  linux-lawful : (tag : ℕ) → OneString s header tag → (textIs s header linux tag ≡ true) ↔ TextIs s header tag linux
+  linux-lawful : (tag : ℕ) → OneString s header tag → (textIs s header (taggedIn s header) linux tag ≡ true) ↔ TextIs s header tag linux
   unfolding nonzero
   linux-lawful = text-lawful (0x6C ∷ 0x69 ∷ 0x6E ∷ 0x75 ∷ 0x78 ∷ []) refl
 
-  shell-lawful : (tag : ℕ) → OneString s header tag → (textIs s header binSh tag ≡ true) ↔ TextIs s header tag binSh
+  shell-lawful : (tag : ℕ) → OneString s header tag → (textIs s header (taggedIn s header) binSh tag ≡ true) ↔ TextIs s header tag binSh
   unfolding nonzero
   shell-lawful = text-lawful (0x2F ∷ 0x62 ∷ 0x69 ∷ 0x6E ∷ 0x2F ∷ 0x73 ∷ 0x68 ∷ []) refl
 
   ends-lawful : WhereTagged s header 1118 (λ (e : IndexRecord). e .ty ≡ 8)
-      → (directoriesEnd s header ≡ true)
+      → (directoriesEnd s header (taggedIn s header) ≡ true)
       ↔ WhereTagged s header 1118 (λ (e : IndexRecord). Directories s (inFile header (e .offset)) (e .count))
   ends-lawful typed =
       record-iff s header apart 1118 (λ (t : Tagged). foundSlashes s (entryFor s header t) ≡ true)
@@ -181,19 +181,19 @@ module _ (s : List ℕ) (start : ℕ) (lawful : LawfulStructure s start) where
       (λ i l t. slashes-at i l (typed i l t)) (inl refl)
 
   indexes-lawful : (HasTag s header 1116 → HasTag s header 1118)
-      → (indexesBelow s header ≡ true) ↔ WhereTagged s header 1116
+      → (indexesBelow s header (taggedIn s header) ≡ true) ↔ WhereTagged s header 1116
       (λ (e : IndexRecord). (k : ℕ) → k < e .count
       → WhereTagged s header 1118 (λ (d : IndexRecord). be32At s (inFile header (e .offset) + 4 * k) < d .count))
   indexes-lawful led =
       found-iff s header apart 1116
-      (λ (t : Tagged). foundBelow s (countIn s header 1118) (entryFor s header t) ≡ true)
+      (λ (t : Tagged). foundBelow s (countIn (taggedIn s header) 1118) (entryFor s header t) ≡ true)
       (λ (e : IndexRecord). (k : ℕ) → k < e .count
       → WhereTagged s header 1118 (λ (d : IndexRecord). be32At s (inFile header (e .offset) + 4 * k) < d .count))
       (λ e h. simp (below-lawful, below-count-iff s header apart 1118, led h) Iff·rfl) (inl refl)
 
   -- 1118 is present where 1116 is
   pub texts-lawful : TextLines s header → (HasTag s header 1116 → HasTag s header 1118)
-      → (textsCheck s header ≡ Pass) ↔ LawfulTexts s header
+      → (textsCheck s header (taggedIn s header) ≡ Pass) ↔ LawfulTexts s header
   unfolding textsCheck
   texts-lawful typed led =
       let system = linux-lawful 1021 (typed .system) in

@@ -19,7 +19,7 @@ use Rattle.structure.specs.Structure.{sectionAt}
 use Rattle.structure.specs.Sound.{SoundHeader}
 use Rattle.catalogue.specs.declared.Line.{Line}
 use Rattle.catalogue.specs.Catalogue.{lineAt, signatureCount, lineCount}
-use Rattle.groups.specs.Groups.{fileTags}
+use Rattle.files.specs.Files.{fileTags}
 use Rattle.texts.specs.Texts.{linux, binSh}
 use Rattle.book.specs.Kinds.{isWeighed}
 use Rattle.book.specs.Book.{bookLimit, kindAt, recordEnd, places, doseAt}

@@ -24,7 +24,7 @@ use Rattle.catalogue.specs.Words.{int32}
 use Rattle.index.specs.Lookup.{findIn}
 use Rattle.package.specs.declared.Opened.{Opened}
 use Rattle.package.specs.declared.Opened.the-variants.{Sound, Unsound}
-use Rattle.texts.specs.Texts.{foundBytes}
+use Rattle.index.specs.Lookup.{foundBytes}
 use Rattle.rules.specs.Rules.{rulesCheck}
 use Rattle.book.specs.declared.Weighed.{Weighed}
 use Rattle.book.specs.declared.Weighed.the-variants as weighed′

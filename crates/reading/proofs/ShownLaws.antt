@@ -7,7 +7,7 @@ use Rattle.format.specs.declared.verdict.Verdict.the-variants.{Pass}
 use Rattle.index.specs.declared.Found.{Found}
 use Rattle.index.specs.declared.Found.the-variants.{At, Nothing}
 use Rattle.index.specs.Lookup.{findIn}
-use Rattle.texts.specs.Texts.{foundBytes}
+use Rattle.index.specs.Lookup.{foundBytes}
 use Rattle.package.specs.Package.{soundCheck, headerAt}
 use Rattle.lookups.specs.Lookup.{soughtAs, sought, soughtBytes, findBytes}
 use Rattle.reading.specs.Shown.{BookShown, WeightShown}

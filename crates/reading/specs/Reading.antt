@@ -13,7 +13,7 @@ use Rattle.format.specs.declared.verdict.Answer.the-variants.{Done, Refused}
 use Rattle.format.specs.Verdicts.{check, both}
 use Rattle.package.specs.Package.{soundCheck, signatureAt, headerAt}
 use Rattle.index.specs.Lookup.{findIn}
-use Rattle.texts.specs.Texts.{foundBytes}
+use Rattle.index.specs.Lookup.{foundBytes}
 use Rattle.catalogue.specs.Words.{int32, bin}
 use Rattle.rules.specs.Rules.{rulesCheck}
 use Rattle.book.specs.Book.{bookTag, bookCheck}

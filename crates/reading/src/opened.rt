@@ -3,7 +3,7 @@ ghost use mathlib.Core.Path.{_≡_};
 ghost use Prim.Native.Nat.{ℕ, _≤_};
 ghost use lib.ListN.{length};
 ghost use Rattle.index.specs.Lookup.{findIn};
-ghost use Rattle.texts.specs.Texts.{foundBytes};
+ghost use Rattle.index.specs.Lookup.{foundBytes};
 ghost use Rattle.book.specs.Doses.{doses};
 ghost use Rattle.reading.specs.Editions.{editionOf};
 ghost use Rattle.reading.specs.Reading.{weightIn, sumCheck, bookPart, openedCheck};
