@@ -12,22 +12,24 @@ use Rattle.index.specs.declared.Tagged.{Tagged}
 use Rattle.index.specs.declared.Tagged.the-variants.{Present, Absent}
 use Rattle.tags.specs.Tags.{Look}
 
--- 1000 to 1132, 20001, 20002, 62, 63 and 100 have a slot; any other tag has none, which is 138
+-- 1000 to 1055, 1080 to 1132, 1064, 20001, 20002, 62, 63 and 100 have a slot; any other tag has none, which is 115
 abbrev pub slots : ℕ
-slots = 138
+slots = 115
 
 unfoldable pub slotOf : ℕ → ℕ
 slotOf tag =
-    cond (leb 1000 tag)
-    (cond (leb tag 1132) (tag - 1000) (cond (eqb tag 20001) 133 (cond (eqb tag 20002) 134 slots)))
-    (cond (eqb tag 62) 135 (cond (eqb tag 63) 136 (cond (eqb tag 100) 137 slots)))
+    cond (leb 1080 tag)
+    (cond (leb tag 1132) (tag - 1024) (cond (eqb tag 20001) 110 (cond (eqb tag 20002) 111 slots)))
+    (cond (leb 1000 tag)
+    (cond (leb tag 1055) (tag - 1000) (cond (eqb tag 1064) 109 slots))
+    (cond (eqb tag 62) 112 (cond (eqb tag 63) 113 (cond (eqb tag 100) 114 slots))))
 
 abbrev pub hasSlot : ℕ → Bool
 hasSlot tag = ltb (slotOf tag) slots
 
 -- the numbers of a table: tag, type, offset and count for each slot
 abbrev pub tableNumbers : ℕ
-tableNumbers = 552
+tableNumbers = 460
 
 -- the record in slot k
 abbrev pub recordIn : List ℕ → ℕ → IndexRecord

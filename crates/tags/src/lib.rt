@@ -12,35 +12,44 @@ pub struct Table {}
 
 impl Table {
     // How many tags have a slot.
-    pub const SLOTS: usize = 138;
+    pub const SLOTS: usize = 115;
     // How many numbers it holds: tag, type, offset and count for each slot.
-    pub const NUMBERS: usize = 552;
+    pub const NUMBERS: usize = 460;
 }
 
 // The slot of a tag; `Table::SLOTS` for a tag that has none.
 fn slot(tag: u32) -> usize
     ensures { λ r. ⌜ r ≡ slotOf tag ⌝ }
 {
-    if 1000 <= tag {
+    if 1080 <= tag {
         if tag <= 1132 {
-            return (tag - 1000) as usize;
+            return (tag - 1024) as usize;
         }
         if tag == 20001 {
-            return 133;
+            return 110;
         }
         if tag == 20002 {
-            return 134;
+            return 111;
+        }
+        return Table::SLOTS;
+    }
+    if 1000 <= tag {
+        if tag <= 1055 {
+            return (tag - 1000) as usize;
+        }
+        if tag == 1064 {
+            return 109;
         }
         return Table::SLOTS;
     }
     if tag == 62 {
-        return 135;
+        return 112;
     }
     if tag == 63 {
-        return 136;
+        return 113;
     }
     if tag == 100 {
-        return 137;
+        return 114;
     }
     Table::SLOTS
 }
@@ -69,7 +78,9 @@ pub fn gather(s: &[u8], section: Section) -> [u32; Table::NUMBERS]
     while 0 < i {
         i -= 1;
         let place = section.index_record(i);
-        note(&mut table, IndexRecord::at(s, place));
+        if slot(be::be32(s, place.0)) < Table::SLOTS {
+            note(&mut table, IndexRecord::at(s, place));
+        }
     }
     table
 }

@@ -1,4 +1,3 @@
--- From the last record to the first, the table is that of the records that were passed. Assumes nothing.
 use Prim.Native.Nat.{_≤_, _-_}
 use mathlib.Core.Path.{_≡_}
 use borrow.Author.Needs.{needs}
@@ -22,6 +21,12 @@ sub-i c = search needs
 index-record-requires : tie.Need-index-record-requires Inv-loop μ-loop
 index-record-requires c κs = search needs
 
+be32-requires : tie.Need-be32-requires Inv-loop μ-loop
+be32-requires c κs = search needs
+
+slot-requires : tie.Need-slot-requires Inv-loop μ-loop
+slot-requires c κs = search needs
+
 at-requires : tie.Need-at-requires Inv-loop μ-loop
 at-requires c κs = search needs
 
@@ -33,6 +38,12 @@ loop-less c = search needs
 
 loop-again : tie.Need-loop-again Inv-loop μ-loop
 loop-again c = (search needs, search laws.turn)
+
+loop-less-2 : tie.Need-loop-less-2 Inv-loop μ-loop
+loop-less-2 c = search needs
+
+loop-again-2 : tie.Need-loop-again-2 Inv-loop μ-loop
+loop-again-2 c = (search needs, search laws.skip)
 
 returns : tie.Need-returns Inv-loop μ-loop
 returns c = search laws.spent
@@ -46,8 +57,12 @@ gather-spec =
     loop-holds
     sub-i
     index-record-requires
+    be32-requires
+    slot-requires
     at-requires
     note-requires
     loop-less
     loop-again
+    loop-less-2
+    loop-again-2
     returns)
