@@ -13,13 +13,17 @@ use Rattle.files.specs.Files.{filesCheck, namesCheck, fileGroups}
 use Rattle.groups.specs.Groups.{needsCheck, pairsCheck, signaturePairs, scriptPairs, ledCheck, ledGroups, groupsCheck}
 
 -- the led groups as a table: a leader and the three tags of its group
-abbrev pub ledTable : List ℕ
+abbrev pub ledTable : List (List ℕ)
 ledTable =
-    1049 ∷ 1048 ∷ 1049 ∷ 1050 ∷
-    1047 ∷ 1047 ∷ 1112 ∷ 1113 ∷
-    1054 ∷ 1053 ∷ 1054 ∷ 1055 ∷
-    1090 ∷ 1090 ∷ 1114 ∷ 1115 ∷
-    1081 ∷ 1080 ∷ 1081 ∷ 1082 ∷ []
+    (1049 ∷ 1048 ∷ 1049 ∷ 1050 ∷ []) ∷
+    (1047 ∷ 1047 ∷ 1112 ∷ 1113 ∷ []) ∷
+    (1054 ∷ 1053 ∷ 1054 ∷ 1055 ∷ []) ∷
+    (1090 ∷ 1090 ∷ 1114 ∷ 1115 ∷ []) ∷
+    (1081 ∷ 1080 ∷ 1081 ∷ 1082 ∷ []) ∷ []
+
+-- number k of group i
+abbrev pub ledNumber : ℕ → ℕ → ℕ
+ledNumber i k = getD (getD ledTable i []) k 0
 
 module _ (look : Look) where
   pub signature-run : pairsCheck look (1011 ∷ 1005 ∷ 1012 ∷ 1002 ∷ []) ≡ signaturePairs look
@@ -34,7 +38,7 @@ module _ (look : Look) where
       (both-end (needsCheck look 1026 1088))
 
   abbrev pub ledAt : ℕ → Verdict
-  ledAt i = ledCheck look (getD ledTable (4 * i) 0) (getD ledTable (4 * i + 1) 0) (getD ledTable (4 * i + 2) 0) (getD ledTable (4 * i + 3) 0)
+  ledAt i = ledCheck look (ledNumber i 0) (ledNumber i 1) (ledNumber i 2) (ledNumber i 3)
 
   pub led-run : ledGroups look ≡ runFrom ledAt 5 0
   unfolding runFrom ledGroups

@@ -110,27 +110,12 @@ fn led(header: &[u32; Table::NUMBERS], leader: u32, a: u32, b: u32, c: u32) -> V
 }
 
 // The led groups, in order: a leader, and the three tags of its group.
-const LED_GROUPS: [u32; 20] = [
-    1049,
-    1048,
-    1049,
-    1050,
-    1047,
-    1047,
-    1112,
-    1113,
-    1054,
-    1053,
-    1054,
-    1055,
-    1090,
-    1090,
-    1114,
-    1115,
-    1081,
-    1080,
-    1081,
-    1082,
+const LED_GROUPS: [[u32; 4]; 5] = [
+    [1049, 1048, 1049, 1050],
+    [1047, 1047, 1112, 1113],
+    [1054, 1053, 1054, 1055],
+    [1090, 1090, 1114, 1115],
+    [1081, 1080, 1081, 1082],
 ];
 
 // The led groups, in order.
@@ -140,14 +125,8 @@ fn led_groups(header: &[u32; Table::NUMBERS]) -> Verdict
     let table = LED_GROUPS;
     let mut i = 0;
     while i < 5 {
-        let at = 4 * i;
-        let v = led(
-            header,
-            table[at],
-            table[at + 1],
-            table[at + 2],
-            table[at + 3],
-        );
+        let group = table[i];
+        let v = led(header, group[0], group[1], group[2], group[3]);
         if let Verdict::Fail(number, place) = v {
             return Verdict::Fail(number, place);
         }

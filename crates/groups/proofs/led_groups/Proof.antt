@@ -20,38 +20,20 @@ abbrev μ-loop : tie.MeasureT-loop
 loop-holds : tie.Need-loop-holds Inv-loop μ-loop
 loop-holds c = (search needs, search led-run)
 
-mul-at : tie.Need-mul-at Inv-loop μ-loop
-mul-at c = search needs
+mul-group : tie.Need-mul-group Inv-loop μ-loop
+mul-group c = search needs
 
-mul-led : tie.Need-mul-led Inv-loop μ-loop
-mul-led c = search needs
+array-copy-out-group : tie.Need-array-copy-out-group Inv-loop μ-loop
+array-copy-out-group c = search needs
 
 array-read-led : tie.Need-array-read-led Inv-loop μ-loop
 array-read-led c = search needs
 
-add-led : tie.Need-add-led Inv-loop μ-loop
-add-led c = search needs
-
-mul-led-2 : tie.Need-mul-led-2 Inv-loop μ-loop
-mul-led-2 c = search needs
-
 array-read-led-2 : tie.Need-array-read-led-2 Inv-loop μ-loop
 array-read-led-2 c = search needs
 
-add-led-2 : tie.Need-add-led-2 Inv-loop μ-loop
-add-led-2 c = search needs
-
-mul-led-3 : tie.Need-mul-led-3 Inv-loop μ-loop
-mul-led-3 c = search needs
-
 array-read-led-3 : tie.Need-array-read-led-3 Inv-loop μ-loop
 array-read-led-3 c = search needs
-
-add-led-3 : tie.Need-add-led-3 Inv-loop μ-loop
-add-led-3 c = search needs
-
-mul-led-4 : tie.Need-mul-led-4 Inv-loop μ-loop
-mul-led-4 c = search needs
 
 array-read-led-4 : tie.Need-array-read-led-4 Inv-loop μ-loop
 array-read-led-4 c = search needs
@@ -87,17 +69,11 @@ led-groups-spec =
     Inv-loop
     μ-loop
     loop-holds
-    mul-at
-    mul-led
+    mul-group
+    array-copy-out-group
     array-read-led
-    add-led
-    mul-led-2
     array-read-led-2
-    add-led-2
-    mul-led-3
     array-read-led-3
-    add-led-3
-    mul-led-4
     array-read-led-4
     led-requires
     enum-known-v
