@@ -1,2 +1,3 @@
 pub mod LinesLaws
 pub mod SlotLaws
+pub mod OrderLaws
