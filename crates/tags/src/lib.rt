@@ -135,7 +135,8 @@ pub fn count(table: &[u32; Table::NUMBERS], tag: u32) -> u32
     if table[at] != tag {
         return 0;
     }
-    table[at + 3]
+    let n = table[at + 3];
+    n
 }
 
 // The 32-bit number that a tag's data begins with; 0 where the tag is absent.

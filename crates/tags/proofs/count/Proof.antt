@@ -1,4 +1,3 @@
--- By the record in the tag's slot. Assumes nothing.
 use Rattle.tags.proofs.TableLaws as laws
 use borrow.Author.Needs.{needs}
 use Rattle.tags.proofs.count.Statement.{statement}
@@ -22,14 +21,14 @@ element-copy-out-if2 c = search needs
 returns-2 : tie.Need-returns-2
 returns-2 c = search laws.count-other
 
-add-result : tie.Need-add-result
-add-result c = search needs
+add-n : tie.Need-add-n
+add-n c = search needs
 
-mul-result : tie.Need-mul-result
-mul-result c = search needs
+mul-n : tie.Need-mul-n
+mul-n c = search needs
 
-element-copy-out-result : tie.Need-element-copy-out-result
-element-copy-out-result c = search needs
+element-copy-out-n : tie.Need-element-copy-out-n
+element-copy-out-n c = search needs
 
 returns-3 : tie.Need-returns-3
 returns-3 c = search laws.count-there
@@ -44,7 +43,7 @@ count-spec =
     mul-if2
     element-copy-out-if2
     returns-2
-    add-result
-    mul-result
-    element-copy-out-result
+    add-n
+    mul-n
+    element-copy-out-n
     returns-3)
