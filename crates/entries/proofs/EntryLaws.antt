@@ -14,8 +14,6 @@ use Rattle.strings.specs.Strings.{stringsFrom, isEnded}
 use Rattle.format.specs.declared.places.Section.{Section}
 use Rattle.format.specs.declared.records.IndexRecord.{IndexRecord}
 use Rattle.format.specs.Places.{recordPlace, inFile, sectionEnd}
-use Rattle.format.specs.Records.{indexRecordAt}
-use Rattle.format.proofs.RecordLaws.{index-read}
 use Rattle.entries.specs.declared.types.ElementSize.{ElementSize}
 use Rattle.entries.specs.declared.types.ElementSize.the-variants.{Bytes, ToZero, Unlawful}
 use Rattle.entries.specs.Types.{elementSize, isLawful}
@@ -144,13 +142,3 @@ unlawful e q h = rw (← q, h)
 -- the size that was found is the type's
 pub sized : (ty : ℕ) {k size : ElementSize} → k ≡ elementSize ty → k ≡ size → size ≡ elementSize ty
 sized ty q h = sym h ∙ q
-
--- a record, from the numbers that were read or whole
-module _ (s : List ℕ) {at place : ℕ} (h : at ≡ place) where
-  pub record-read : {a b c d : ℕ} → a ≡ be32At s (at + 0) → b ≡ be32At s (at + 4) → c ≡ be32At s (at + 8)
-      → d ≡ be32At s (at + 12)
-      → _≡_ {A = IndexRecord} (record { tag = a; ty = b; offset = record { 0 = c }; count = d }) (indexRecordAt s place)
-  record-read p q r t = index-read s at p q r t ∙ ap (indexRecordAt s) h
-
-  pub record-whole : {e : IndexRecord} → e ≡ indexRecordAt s at → e ≡ indexRecordAt s place
-  record-whole q = q ∙ ap (indexRecordAt s) h

@@ -1,18 +1,15 @@
 // One index record: its type, and checks 9 to 13.
 ghost use mathlib.Core.Path.{_≡_};
-ghost use Prim.Native.Nat.{_+_, _≤_};
-ghost use lib.ListN.{length};
 ghost use Rattle.be.specs.Numbers.{be32At};
 ghost use Rattle.format.specs.Places.{recordPlace};
 ghost use Rattle.entries.specs.declared.types.ElementSize.the-variants.{Bytes, ToZero};
 ghost use Rattle.entries.specs.Types.{elementSize};
-ghost use Rattle.entries.specs.Entries.{countRight, dataEnd, tagBefore, recordAt, entryCheck};
+ghost use Rattle.entries.specs.Entries.{countRight, dataEnd, tagBefore, entryCheck};
 
 pub mod types;
 
 use format::IndexRecord;
 use format::Section;
-use format::StoreOffset;
 use format::Verdict;
 use strings::Ending;
 pub use types::ElementSize;
@@ -54,14 +51,6 @@ pub fn data_end(s: &[u8], section: Section, e: IndexRecord) -> Ending
     }
 }
 
-// The number at a place of a slice that has it whole.
-fn be32_within(s: &[u8], at: usize) -> u32
-    requires { ⌜ at + 4 ≤ length (now s) ⌝ }
-    ensures { λ r. ⌜ r ≡ be32At (now (s .entry)) at ⌝ }
-{
-    be::join32(s[at], s[at + 1], s[at + 2], s[at + 3])
-}
-
 // The tag of record `i`. For one of the first `n`, where the slice has those whole, it is read at once.
 pub fn tag_at(s: &[u8], section: Section, n: u32, i: u32) -> u32
     ensures { λ r. ⌜ r ≡ be32At (now (s .entry)) (recordPlace section i) ⌝ }
@@ -71,30 +60,10 @@ pub fn tag_at(s: &[u8], section: Section, n: u32, i: u32) -> u32
     let at = place.0;
     if end.0 <= s.len() {
         if i < n {
-            return be32_within(s, at);
+            return be::join32(s[at], s[at + 1], s[at + 2], s[at + 3]);
         }
     }
     be::be32(s, at)
-}
-
-// Record `i`, read likewise.
-pub fn record_at(s: &[u8], section: Section, n: u32, i: u32) -> IndexRecord
-    ensures { λ r. ⌜ r ≡ recordAt (now (s .entry)) section i ⌝ }
-{
-    let end = section.index_record(n);
-    let place = section.index_record(i);
-    let at = place.0;
-    if end.0 <= s.len() {
-        if i < n {
-            return IndexRecord {
-                tag: be32_within(s, at + IndexRecord::TAG),
-                ty: be32_within(s, at + IndexRecord::TYPE),
-                offset: StoreOffset(be32_within(s, at + IndexRecord::OFFSET)),
-                count: be32_within(s, at + IndexRecord::COUNT),
-            };
-        }
-    }
-    IndexRecord::at(s, place)
 }
 
 // Whether one of the first `i` records has the tag (check 13).

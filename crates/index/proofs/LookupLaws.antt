@@ -13,6 +13,7 @@ use Rattle.format.specs.declared.places.FileOffset.{FileOffset}
 use Rattle.format.specs.declared.places.Section.{Section}
 use Rattle.format.specs.declared.records.IndexRecord.{IndexRecord}
 use Rattle.format.specs.Places.{recordPlace, inFile}
+use Rattle.format.specs.Records.{indexRecordAt}
 use Rattle.index.specs.declared.Entry.{Entry}
 use Rattle.index.specs.declared.Found.{Found}
 use Rattle.index.specs.declared.Found.the-variants.{At, Nothing}
@@ -60,17 +61,20 @@ module _ (s : List ℕ) (section : Section) (tag ty n i : ℕ) {v : Found} (inv 
   pub other-tag : (r ≡ tag → ⊥) → v ≡ findFrom s section (n - (i + 1)) (i + 1) tag ty
   other-tag h = not-for (rw (ne-eqb (be32At s (recordPlace section i)) tag (λ q. h (p ∙ q))))
 
-  module _ (h : r ≡ tag) {e : IndexRecord} (q : e ≡ recordAt s section i) where
+  module _ (h : r ≡ tag) {place : ℕ} (d : place ≡ recordPlace section i) {e : IndexRecord} (g : e ≡ indexRecordAt s place) where
+    here : e ≡ recordAt s section i
+    here = g ∙ ap (indexRecordAt s) d
+
     same-type : (b : Bool) → eqb (e .ty) ty ≡ b → isFor tag ty (recordAt s section i) ≡ b
-    same-type b k = rw (eq-eqb (be32At s (recordPlace section i)) tag (sym p ∙ h)) (rw q at k)
+    same-type b k = rw (eq-eqb (be32At s (recordPlace section i)) tag (sym p ∙ h)) (rw here at k)
 
     pub other-type : (e .ty ≡ ty → ⊥) → v ≡ findFrom s section (n - (i + 1)) (i + 1) tag ty
     other-type k = not-for (same-type false (ne-eqb (e .ty) ty k))
 
     pub ends : {end : Ending} {entry : Entry} → e .ty ≡ ty → end ≡ dataEnd s section e → entry ≡ entryOf section e end
         → At entry ≡ v
-    ends k g j =
-        ap At (rw (g, q) at j)
+    ends k f j =
+        ap At (rw (f, here) at j)
         ∙ sym (inv ∙ unrolled s section tag ty n i l ∙ rw (same-type true (eq-eqb (e .ty) ty k)))
 
 pub spent : (s : List ℕ) (section : Section) (tag ty n i : ℕ) {v : Found} → v ≡ findFrom s section (n - i) i tag ty → n ≤ i
@@ -95,10 +99,10 @@ module _ (s : List ℕ) (section : Section) (tag : ℕ) where
         → v ≡ taggedFrom s section (n - (i + 1)) (i + 1) tag
     tagged-turn q h l = inv ∙ tagged-unrolled n i l ∙ rw (ne-eqb (be32At s (recordPlace section i)) tag (λ e. h (q ∙ e)))
 
-    pub tagged-ends : {r : ℕ} {e : IndexRecord} → r ≡ be32At s (recordPlace section i) → r ≡ tag → i < n
-        → e ≡ recordAt s section i → Present e ≡ v
-    tagged-ends q h l g =
-        ap Present g
+    pub tagged-ends : {place r : ℕ} {e : IndexRecord} → r ≡ be32At s (recordPlace section i) → r ≡ tag → i < n
+        → place ≡ recordPlace section i → e ≡ indexRecordAt s place → Present e ≡ v
+    tagged-ends q h l p g =
+        ap Present (g ∙ ap (indexRecordAt s) p)
         ∙ sym (inv ∙ tagged-unrolled n i l ∙ rw (eq-eqb (be32At s (recordPlace section i)) tag (sym q ∙ h)))
 
     pub tagged-spent : n ≤ i → Absent ≡ v

@@ -2,7 +2,6 @@
 ghost use mathlib.Core.Path.{_≡_};
 ghost use Rattle.index.specs.Lookup.{extentTo, entryOf, findIn, taggedIn, entryFor};
 use entries::data_end;
-use entries::record_at;
 use entries::tag_at;
 use format::FileOffset;
 use format::IndexRecord;
@@ -62,8 +61,10 @@ pub fn find(s: &[u8], section: Section, tag: u32, ty: u32) -> Found
     while next < n {
         let i = next;
         next += 1;
-        if tag_at(s, section, n, i) == tag {
-            let e = record_at(s, section, n, i);
+        let here = tag_at(s, section, n, i);
+        if here == tag {
+            let place = section.index_record(i);
+            let e = IndexRecord::at(s, place);
             if e.ty == ty {
                 let end = data_end(s, section, e);
                 return Found::At(entry_of(section, e, end));
@@ -81,7 +82,8 @@ pub fn find_tag(s: &[u8], section: Section, tag: u32) -> Tagged
     let mut i = 0;
     while i < n {
         if tag_at(s, section, n, i) == tag {
-            return Tagged::Present(record_at(s, section, n, i));
+            let place = section.index_record(i);
+            return Tagged::Present(IndexRecord::at(s, place));
         }
         i += 1;
     }

@@ -19,8 +19,8 @@ fn answer(asked: Request, pkg: &[u8]) {
             lookups::find(pkg, which, tag, ty),
         ),
         Request::Element(which, tag, ty, k) => show::put_found(
-            lookups::find_element_answer(pkg, which, tag, ty, k),
-            lookups::find_element(pkg, which, tag, ty, k),
+            elements::find_element_answer(pkg, which, tag, ty, k),
+            elements::find_element(pkg, which, tag, ty, k),
         ),
         Request::Requires => show::put_required(pkg),
         Request::Unknown => show::put_usage(),

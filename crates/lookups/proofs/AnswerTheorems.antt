@@ -22,11 +22,9 @@ use Rattle.lookups.specs.declared.Sought.{Sought}
 use Rattle.lookups.specs.declared.Sought.the-variants.{Here, Refused}
 use Rattle.package.specs.Package.{soundCheck, structureOf}
 use Rattle.lookups.specs.Lookup.{soughtAs, sought, entryBytes, soughtBytes, soughtAnswer}
-use Rattle.lookups.specs.Lookup.{elementOf, elementAs, soughtElement}
-use Rattle.lookups.specs.Theorems.{AnswersAgree, ElementAnswersAgree}
+use Rattle.lookups.specs.Theorems.{AnswersAgree}
 use Rattle.package.proofs.NumberLaws.{sound-number}
 use Rattle.lookups.proofs.FoundLaws.{structure-fits, record-of-found, found-sound}
-use Rattle.lookups.proofs.ElementFound.{found-element}
 
 pub not-empty : (s : List ℕ) (len : ℕ) (entry : Entry) → len ≤ length s → SoundEntry s len entry
     → entryBytes s entry ≢ []
@@ -38,7 +36,7 @@ not-empty s len entry l t q =
     omega arith
 
 -- what is sought is sound where it is found, and has a number where it is refused
-agree : (s : List ℕ) (len : ℕ) (x : Sought)
+pub agree : (s : List ℕ) (len : ℕ) (x : Sought)
     → ((entry : Entry) → x ≡ Here entry → (len ≤ length s) × SoundEntry s len entry)
     → ((number place : ℕ) → x ≡ Refused number place → 1 ≤ number)
     → (numberOf (soughtAnswer x) ≡ 0) ↔ (soughtBytes s x ≢ [])
@@ -47,7 +45,7 @@ agree s len (Refused number place) h k =
     let l = k number place refl in
     (λ e. absurd (omega arith), λ e. absurd (e refl))
 
-sought-number : (s : List ℕ) (which tag ty number place : ℕ) → sought s which tag ty ≡ Refused number place → 1 ≤ number
+pub sought-number : (s : List ℕ) (which tag ty number place : ℕ) → sought s which tag ty ≡ Refused number place → 1 ≤ number
 unfolding sought
 sought-number s which tag ty number place h = go (soundCheck s) refl (findIn s (structureOf s which) tag ty) h
   where
@@ -62,23 +60,3 @@ answers-agree s which tag ty =
     (λ entry h.
     (structure-fits s (record-of-found s which tag ty entry h .0) which, found-sound s which tag ty entry h))
     (sought-number s which tag ty)
-
--- check 26
-element-refused : (s : List ℕ) (k : ℕ) (entry : Entry) (number place : ℕ) (b : Bool)
-    → cond b (Here (elementOf s entry k)) (Refused 26 0) ≡ Refused number place → 1 ≤ number
-element-refused s k entry number place true q = let z : _≡_ {A = ℕ} 0 1 = cc in absurd (omega arith)
-element-refused s k entry number place false q = let n : 26 ≡ number = cc in omega arith
-
-element-number : (s : List ℕ) (which tag ty k number place : ℕ)
-    → soughtElement s which tag ty k ≡ Refused number place → 1 ≤ number
-unfolding soughtElement
-element-number s which tag ty k number place h = go (sought s which tag ty) refl h
-  where
-    go : (x : Sought) → sought s which tag ty ≡ x → elementAs s k x ≡ Refused number place → 1 ≤ number
-    go (Here entry) e q = element-refused s k entry number place (ltb k (entry .count)) q
-    go (Refused n p) e q = sought-number s which tag ty number place (e ∙ q)
-
-pub element-answers-agree : ElementAnswersAgree
-element-answers-agree s which tag ty k =
-    agree s (sectionEnd (structureOf s which)) (soughtElement s which tag ty k) (found-element s which tag ty k)
-    (element-number s which tag ty k)

@@ -1,10 +1,4 @@
 pub mod SeekLaws
-pub mod PartLaws
 pub mod FoundLaws
-pub mod ElementSound
-pub mod ElementFound
 pub mod LookupTheorems
 pub mod AnswerTheorems
-pub mod ElementLaws
-pub mod SingleLaws
-pub mod ElementTheorems

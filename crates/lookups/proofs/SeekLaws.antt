@@ -1,16 +1,19 @@
 -- Look-ups: what they come to, by what was opened; what they show is what is found in the structure (found-shown,
 -- header-shown), and sound.
-use Prim.Native.Nat.{ℕ, _≤_, _<_}
+use Prim.Native.Nat.{ℕ, _≤_}
 use mathlib.Core.Path.{_≡_, refl, sym, _∙_}
 use mathlib.Core.List.{List, []}
 use mathlib.Core.Bool.{Bool, true, false, cond}
 use lib.ListN.{length}
 use lib.Dec.{eqb}
+use mir.Syntax.{w32}
+use mir.Val.{Fits}
 use native.Mathlib.Omega.{arith}
 use Rattle.format.specs.declared.places.Section.{Section}
 use Rattle.format.specs.declared.verdict.Verdict.{Verdict}
 use Rattle.format.specs.declared.verdict.Verdict.the-variants.{Pass, Fail}
 use Rattle.format.specs.declared.verdict.Answer.the-variants as answer
+use Rattle.format.specs.Sizes.{packageLimit}
 use Rattle.index.specs.declared.Entry.{Entry}
 use Rattle.index.specs.declared.Found.{Found}
 use Rattle.index.specs.declared.Found.the-variants.{At, Nothing}
@@ -73,12 +76,13 @@ pub bytes-here : (s : List ℕ) {found : Sought} {entry : Entry} {l : List ℕ} 
     → l ≡ soughtBytes s found
 bytes-here s h k = rw h k
 
-pub answer-here : {found : Sought} {entry : Entry} → found ≡ Here entry → answer.Done (entry .at .0) ≡ soughtAnswer found
-answer-here h = rw h
+-- number and place of what was sought
+module _ {f found : Sought} (p : found ≡ f) where
+  pub answer-here : {entry : Entry} → found ≡ Here entry → answer.Done (entry .at .0) ≡ soughtAnswer f
+  answer-here h = rw (sym p ∙ h)
 
-pub answer-refused : {found : Sought} {number place : ℕ} → found ≡ Refused number place
-    → answer.Refused number place ≡ soughtAnswer found
-answer-refused h = rw h
+  pub answer-refused : {number place : ℕ} → found ≡ Refused number place → answer.Refused number place ≡ soughtAnswer f
+  answer-refused h = rw (sym p ∙ h)
 
 -- an entry that was found is sound
 found-in : (s : List ℕ) (section : Section) (tag ty : ℕ) (entry : Entry) (b : Bool) → soundCheck s ≡ Pass
@@ -87,9 +91,9 @@ found-in s section tag ty entry true h e f = found-sound s (length s) _ tag ty e
 found-in s section tag ty entry false h e f = found-sound s (length s) _ tag ty entry (sound-header s h) (rw e at f)
 
 pub header-found : (s : List ℕ) (tag ty : ℕ) (entry : Entry) → soundCheck s ≡ Pass → findIn s (headerAt s) tag ty ≡ At entry
-    → SoundEntry s 65536 entry
+    → SoundEntry s packageLimit entry
 header-found s tag ty entry h f =
-    sound-longer s (length s) 65536 entry (found-in s (headerAt s) tag ty entry false h refl f) (sound-size s h)
+    sound-longer s (length s) packageLimit entry (found-in s (headerAt s) tag ty entry false h refl f) (sound-size s h)
 
 as-here : (v : Verdict) (found : Found) (entry : Entry) → soughtAs v found ≡ Here entry → (v ≡ Pass) × (found ≡ At entry)
 as-here Pass (At x) entry h = (refl, cc)
@@ -97,16 +101,16 @@ as-here Pass Nothing entry h = let z : _≡_ {A = ℕ} 0 1 = cc in absurd (omega
 as-here (Fail number place) found entry h = let z : _≡_ {A = ℕ} 0 1 = cc in absurd (omega arith)
 
 pub sought-sound : (s : List ℕ) (which tag ty : ℕ) (entry : Entry) → sought s which tag ty ≡ Here entry
-    → (SoundEntry s (length s) entry) × (length s ≤ 65536)
+    → (SoundEntry s (length s) entry) × (length s ≤ packageLimit)
 unfolding sought
 sought-sound s which tag ty entry h =
     let k = as-here (soundCheck s) (findIn s (structureOf s which) tag ty) entry h in
     (found-in s (structureOf s which) tag ty entry (eqb which 0) (k .0) refl (k .1), sound-size s (k .0))
 
 -- it starts at a 32-bit place
-pub sought-small : (s : List ℕ) (which tag ty : ℕ) {found : Sought} → found ≡ sought s which tag ty → (entry : Entry)
-    → found ≡ Here entry → entry .at .0 < 4294967296
-sought-small s which tag ty p entry h =
+pub sought-fits : (s : List ℕ) (which tag ty : ℕ) {found : Sought} {entry : Entry} → found ≡ sought s which tag ty
+    → found ≡ Here entry → Fits w32 (entry .at .0)
+sought-fits s which tag ty {entry = entry} p h =
     let k = sought-sound s which tag ty entry (sym p ∙ h) in
     let b = k .0 .inside in
-    omega arith
+    record { fits = omega arith }

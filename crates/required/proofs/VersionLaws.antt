@@ -15,6 +15,7 @@ use Rattle.strings.specs.Strings.{stringsFrom}
 use Rattle.strings.proofs.StringLaws.{bound, positive, split}
 use Rattle.format.specs.declared.places.Section.{Section}
 use Rattle.format.specs.declared.verdict.Verdict.the-variants.{Pass}
+use Rattle.format.specs.Sizes.{packageLimit}
 use Rattle.entries.specs.declared.types.ElementSize.the-variants.{ToZero}
 use Rattle.index.specs.declared.Entry.{Entry}
 use Rattle.index.specs.declared.Found.{Found}
@@ -25,13 +26,14 @@ use Rattle.structure.specs.Sound.{SoundEntry}
 use Rattle.structure.proofs.SoundLaws.{found-type}
 use Rattle.lookups.specs.declared.Sought.{Sought}
 use Rattle.lookups.specs.declared.Sought.the-variants.{Here, Refused}
-use Rattle.lookups.specs.Lookup.{elementOf}
+use Rattle.elements.specs.Elements.{elementOf, elementIn}
 use Rattle.package.specs.declared.Opened.{Opened}
 use Rattle.package.specs.declared.Opened.the-variants.{Sound, Unsound}
 use Rattle.package.specs.Package.{headerAt, soundCheck, opened}
 use Rattle.required.specs.Version.{textOf, versionFrom, versionIn, soughtVersion, requireName, requireVersion, stringArray}
 use Rattle.package.proofs.OpenLaws.{opened-sound, opened-unsound}
 use Rattle.lookups.proofs.SeekLaws.{header-found}
+use Rattle.elements.proofs.PartLaws.{in-of}
 
 module _ (s name : List ℕ) (names versions : Entry) where
   step : (n k : ℕ) → versionFrom s name names versions (suc n) k
@@ -51,7 +53,7 @@ module _ (s name : List ℕ) (names versions : Entry) where
   none n k h = rw h
 
 -- string k of a sound string array starts at a place
-module _ (s : List ℕ) (names : Entry) (sound : SoundEntry s 65536 names) (strings : elementSize (names .ty) ≡ ToZero)
+module _ (s : List ℕ) (names : Entry) (sound : SoundEntry s packageLimit names) (strings : elementSize (names .ty) ≡ ToZero)
     (k at : ℕ) (l : k < names .count) (inv : stringsFrom s (names .extent) (names .at .0) k ≡ Ends at) where
   next : (m : ℕ) × (stringsFrom s (names .extent) (names .at .0) (k + 1) ≡ Ends m)
       × (stringsFrom s (names .at .0 + names .extent - at) at 1 ≡ Ends m)
@@ -95,8 +97,11 @@ module _ (s : List ℕ) (names : Entry) (sound : SoundEntry s 65536 names) (stri
     module _ (name : List ℕ) (versions : Entry) {v : Sought}
         (w : v ≡ versionFrom s name names versions (names .count - k) k)
         {t : List ℕ} (h : t ≡ take (n - 1) (drop at s)) {b : Bool} (j : b ≡ sameBytes t name) where
-      pub ends : {entry : Entry} → b ≡ true → entry ≡ elementOf s versions k → Here entry ≡ v
-      ends f g =
+      pub ends : {entry : Entry} → b ≡ true → SoundEntry s packageLimit versions → entry ≡ elementIn s versions k
+          → Here entry ≡ v
+      ends f u g′ =
+          let i = u .inside in
+          let g = in-of s versions k (omega arith) g′ in
           sym (w ∙ unrolled s name names versions (names .count) k l
           ∙ rw (sym (ap (λ (x : List ℕ). sameBytes x name) (same-text h)) ∙ sym j ∙ f, g))
 
@@ -126,10 +131,10 @@ module _ (s name : List ℕ) (header : Section) {f : Found} (p : f ≡ findIn s 
           → r ≡ versionIn s name header
       counts-same e j = rw (sym p ∙ h, sym q ∙ k, eq-eqb (names .count) (versions .count) e) j
 
-      pub names-sound : soundCheck s ≡ Pass → header ≡ headerAt s → SoundEntry s 65536 names
+      pub names-sound : soundCheck s ≡ Pass → header ≡ headerAt s → SoundEntry s packageLimit names
       names-sound c e = header-found s requireName stringArray names c (rw e at (sym p ∙ h))
 
-      pub versions-sound : soundCheck s ≡ Pass → header ≡ headerAt s → SoundEntry s 65536 versions
+      pub versions-sound : soundCheck s ≡ Pass → header ≡ headerAt s → SoundEntry s packageLimit versions
       versions-sound c e = header-found s requireVersion stringArray versions c (rw e at (sym q ∙ k))
 
       pub names-strings : elementSize (names .ty) ≡ ToZero

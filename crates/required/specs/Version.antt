@@ -15,7 +15,8 @@ use Rattle.index.specs.Lookup.{findIn}
 use Rattle.lookups.specs.declared.Sought.{Sought}
 use Rattle.lookups.specs.declared.Sought.the-variants.{Here, Refused}
 use Rattle.package.specs.Package.{soundCheck, headerAt}
-use Rattle.lookups.specs.Lookup.{elementOf, soughtBytes}
+use Rattle.lookups.specs.Lookup.{soughtBytes}
+use Rattle.elements.specs.Elements.{elementOf}
 
 -- the tags, and the type of a string array
 abbrev pub requireName : ℕ

@@ -3,6 +3,7 @@ ghost use mathlib.Core.Path.{_≡_};
 ghost use Prim.Native.Nat.{ℕ, _+_, _-_, _≤_, _<_};
 ghost use lib.ListN.{length};
 ghost use Rattle.format.specs.declared.verdict.Verdict.the-variants.{Pass};
+ghost use Rattle.format.specs.Sizes.{packageLimit};
 ghost use Rattle.structure.specs.Sound.{SoundEntry};
 ghost use Rattle.entries.specs.declared.types.ElementSize.the-variants.{ToZero};
 ghost use Rattle.entries.specs.Types.{elementSize};
@@ -12,7 +13,7 @@ use format::Section;
 use index::Entry;
 use index::Found;
 use lookups::Sought;
-use lookups::element;
+use elements::element;
 use lookups::shown;
 use package::Opened;
 use package::open;
@@ -30,7 +31,7 @@ impl Require {
 
 // The version beside the first of the names that is the lent one.
 fn beside(pkg: &[u8], name: &[u8], names: Entry, versions: Entry) -> Sought
-    requires { ⌜ (SoundEntry (now pkg) 65536 names) × (SoundEntry (now pkg) 65536 versions) × (elementSize (names .ty) ≡ ToZero) ⌝ }
+    requires { ⌜ (SoundEntry (now pkg) packageLimit names) × (SoundEntry (now pkg) packageLimit versions) × (elementSize (names .ty) ≡ ToZero) ⌝ }
     ensures { λ r. ⌜ r ≡ versionFrom (now (pkg .entry)) (now (name .entry)) names versions (names .count) 0 ⌝ }
 {
     let mut at = names.at.0;

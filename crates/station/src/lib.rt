@@ -1,7 +1,8 @@
 // The calls for a host program in C: number and place in one number, number × 2^32 + place.
 ghost use mathlib.Core.Path.{_≡_};
 ghost use Rattle.format.specs.Verdicts.{packedOf};
-ghost use Rattle.lookups.specs.Lookup.{findAnswer, findElementAnswer};
+ghost use Rattle.elements.specs.Elements.{findElementAnswer};
+ghost use Rattle.lookups.specs.Lookup.{findAnswer};
 ghost use Rattle.station.specs.Station.{StationRead};
 
 // A look-up: 0 and the data's file offset, or the first failing check of 2 to 13 and 25.
@@ -23,7 +24,7 @@ pub extern "C" fn station_find_element(
 ) -> u64
     ensures { λ r. ⌜ r ≡ packedOf (findElementAnswer (now (pkg .entry)) structure tag ty element) ⌝ }
 {
-    lookups::find_element_answer(pkg, structure, tag, ty, element).packed()
+    elements::find_element_answer(pkg, structure, tag, ty, element).packed()
 }
 
 // The reading at an edition: 0 and the dose count, with the doses at the front of the buffer, four bytes to a number,

@@ -1,14 +1,18 @@
 // One header structure: checks 5 to 13.
 ghost use mathlib.Core.Path.{_≡_};
-ghost use Prim.Native.Nat.{ℕ, _<_};
+ghost use Prim.Native.Nat.{ℕ, _+_, _≤_, _<_};
+ghost use lib.ListN.{length};
+ghost use Rattle.be.specs.Numbers.{be32At};
 ghost use Rattle.format.specs.Places.{storePlace};
+ghost use Rattle.entries.specs.Entries.{recordAt};
 ghost use Rattle.structure.specs.Structure.{headerCheck, recordsCheck};
 ghost use Rattle.structure.specs.Checked.{structureChecked};
 use entries::entry_check;
-use entries::record_at;
 use format::FileOffset;
 use format::HeaderRecord;
+use format::IndexRecord;
 use format::Section;
+use format::StoreOffset;
 use format::Verdict;
 
 // A structure that passed its checks, or the first check that failed and its place.
@@ -51,6 +55,34 @@ fn header_check(len: u32, start: u32, h: HeaderRecord) -> Verdict
         return Verdict::Fail(8, hsize);
     }
     Verdict::Pass
+}
+
+// The number at a place of a slice that has it whole.
+fn be32_within(s: &[u8], at: usize) -> u32
+    requires { ⌜ at + 4 ≤ length (now s) ⌝ }
+    ensures { λ r. ⌜ r ≡ be32At (now (s .entry)) at ⌝ }
+{
+    be::join32(s[at], s[at + 1], s[at + 2], s[at + 3])
+}
+
+// Record `i`. For one of the first `n`, where the slice has those whole, it is read at once.
+fn record_at(s: &[u8], section: Section, n: u32, i: u32) -> IndexRecord
+    ensures { λ r. ⌜ r ≡ recordAt (now (s .entry)) section i ⌝ }
+{
+    let end = section.index_record(n);
+    let place = section.index_record(i);
+    let at = place.0;
+    if end.0 <= s.len() {
+        if i < n {
+            return IndexRecord {
+                tag: be32_within(s, at + IndexRecord::TAG),
+                ty: be32_within(s, at + IndexRecord::TYPE),
+                offset: StoreOffset(be32_within(s, at + IndexRecord::OFFSET)),
+                count: be32_within(s, at + IndexRecord::COUNT),
+            };
+        }
+    }
+    IndexRecord::at(s, place)
 }
 
 // Checks 9 to 13 for each index record in turn.

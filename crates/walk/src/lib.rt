@@ -1,6 +1,7 @@
 // Walking an index: a position by value that hands back the next.
 ghost use mathlib.Core.Path.{_≡_};
 ghost use Prim.Native.Nat.{ℕ, _+_, _≤_, _<_};
+ghost use Rattle.format.specs.Sizes.{packageLimit};
 ghost use Rattle.format.specs.Places.{sectionEnd};
 ghost use Rattle.walk.specs.Walk.{refusedStep, stepIn, stepOf};
 use format::Answer;
@@ -9,6 +10,7 @@ use format::Section;
 use format::StoreOffset;
 use package::Opened;
 use package::open;
+use package::section_for;
 
 // A position in an index: the number of a record.
 pub struct Position {
@@ -40,7 +42,7 @@ fn refused(number: u32, place: u32, position: u32) -> Step
 
 // The step in a structure that lies in the package.
 fn step_in(pkg: &[u8], section: Section, position: u32) -> Step
-    requires { ⌜ (sectionEnd section ≤ 65536) ⌝ }
+    requires { ⌜ sectionEnd section ≤ packageLimit ⌝ }
     ensures { λ r. ⌜ r ≡ stepIn (now (pkg .entry)) section position ⌝ }
 {
     if position < section.nindex {
@@ -73,11 +75,8 @@ impl Position {
         match found {
             Opened::Unsound(number, place) => refused(number, place, self.number),
             Opened::Sound(signature, header) => {
-                if which == 0 {
-                    step_in(pkg, signature, self.number)
-                } else {
-                    step_in(pkg, header, self.number)
-                }
+                let section = section_for(which, signature, header);
+                step_in(pkg, section, self.number)
             }
         }
     }

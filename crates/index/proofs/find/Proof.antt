@@ -23,8 +23,11 @@ add-next c = search needs
 tag-at-requires : tie.Need-tag-at-requires Inv-loop μ-loop
 tag-at-requires c κs = search needs
 
-record-at-requires : tie.Need-record-at-requires Inv-loop μ-loop
-record-at-requires c κs = search needs
+index-record-requires : tie.Need-index-record-requires Inv-loop μ-loop
+index-record-requires c κs = search needs
+
+at-requires : tie.Need-at-requires Inv-loop μ-loop
+at-requires c κs = search needs
 
 data-end-requires : tie.Need-data-end-requires Inv-loop μ-loop
 data-end-requires c κs = search needs
@@ -59,7 +62,8 @@ find-spec =
     loop-holds
     add-next
     tag-at-requires
-    record-at-requires
+    index-record-requires
+    at-requires
     data-end-requires
     entry-of-requires
     returns

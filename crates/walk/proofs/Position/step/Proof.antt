@@ -16,20 +16,17 @@ refused-requires c κs = search needs
 enum-known-found-2 : tie.Need-enum-known-found-2
 enum-known-found-2 c = search needs
 
-step-in-requires : tie.Need-step-in-requires
-step-in-requires c κs = search laws.signature-bounded
+section-for-requires : tie.Need-section-for-requires
+section-for-requires c κs = search needs
 
-step-in-requires-2 : tie.Need-step-in-requires-2
-step-in-requires-2 c κs = search laws.header-bounded
+step-in-requires : tie.Need-step-in-requires
+step-in-requires c κs = search laws.bounded
 
 returns : tie.Need-returns
 returns c = search laws.step-refused
 
 returns-2 : tie.Need-returns-2
-returns-2 c = search laws.step-signature
-
-returns-3 : tie.Need-returns-3
-returns-3 c = search laws.step-header
+returns-2 c = search laws.stepped
 
 pub step-spec : {M : Type 1} → statement M
 step-spec =
@@ -39,8 +36,7 @@ step-spec =
     enum-known-found
     refused-requires
     enum-known-found-2
+    section-for-requires
     step-in-requires
-    step-in-requires-2
     returns
-    returns-2
-    returns-3)
+    returns-2)

@@ -1,8 +1,8 @@
 -- By where the run before the string ended. Assumes nothing.
-use Rattle.lookups.proofs.PartLaws as laws
+use Rattle.elements.proofs.PartLaws as laws
 use borrow.Author.Needs.{needs}
-use Rattle.lookups.proofs.string_part.Statement.{statement}
-use Rattle.lookups.proofs.string_part.Tie as tie
+use Rattle.elements.proofs.string_part.Statement.{statement}
+use Rattle.elements.proofs.string_part.Tie as tie
 
 enum-known-run : tie.Need-enum-known-run
 enum-known-run c = search needs

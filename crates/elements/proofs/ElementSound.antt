@@ -14,7 +14,7 @@ use Rattle.index.specs.declared.Entry.{Entry}
 use Rattle.entries.specs.Types.{elementSize}
 use Rattle.structure.specs.Sound.{SoundEntry}
 use Rattle.entries.proofs.TypeLaws.{bytes-small}
-use Rattle.lookups.specs.Lookup.{elementFor, elementOf}
+use Rattle.elements.specs.Elements.{elementFor, elementOf}
 
 module _ (s : List ℕ) (len : ℕ) (entry : Entry) (t : SoundEntry s len entry) (k : ℕ) (l : k < entry .count) where
   fixed-sound : (n : ℕ) → elementSize (entry .ty) ≡ Bytes n → SoundEntry s len (elementFor (Bytes n) s entry k)

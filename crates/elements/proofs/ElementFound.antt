@@ -11,12 +11,13 @@ use borrow.Author.Tests.{lt-ltb, ltb-true}
 use Rattle.format.specs.Places.{sectionEnd}
 use Rattle.index.specs.declared.Entry.{Entry}
 use Rattle.structure.specs.Sound.{SoundEntry}
 use Rattle.lookups.specs.declared.Sought.{Sought}
 use Rattle.lookups.specs.declared.Sought.the-variants.{Here, Refused}
 use Rattle.package.specs.Package.{structureOf}
-use Rattle.lookups.specs.Lookup.{sought, elementOf, elementAs, soughtElement}
+use Rattle.lookups.specs.Lookup.{sought}
+use Rattle.elements.specs.Elements.{elementOf, elementAs, soughtElement}
 use Rattle.lookups.proofs.FoundLaws.{structure-fits, record-of-found, found-sound}
-use Rattle.lookups.proofs.ElementSound.{element-sound}
+use Rattle.elements.proofs.ElementSound.{element-sound}
 
 below-count : (s : List ℕ) (k : ℕ) (entry element : Entry) (b : Bool) → ltb k (entry .count) ≡ b
     → cond b (Here (elementOf s entry k)) (Refused 26 0) ≡ Here element

@@ -11,16 +11,18 @@ use Rattle.format.specs.Places.{sectionEnd}
 use Rattle.index.specs.declared.Entry.{Entry}
 use Rattle.entries.specs.Entries.{recordAt}
 use Rattle.index.specs.Lookup.{entryAt}
 use Rattle.lookups.specs.declared.Sought.{Sought}
 use Rattle.lookups.specs.declared.Sought.the-variants.{Here, Refused}
 use Rattle.package.specs.Package.{soundCheck, structureOf}
-use Rattle.lookups.specs.Lookup.{soughtBytes, soughtAnswer, soughtElement, elementOf}
-use Rattle.lookups.specs.Theorems.{RecordFor, ElementExact, ElementShows}
+use Rattle.lookups.specs.Lookup.{soughtBytes, soughtAnswer}
+use Rattle.elements.specs.Elements.{soughtElement, elementOf}
+use Rattle.lookups.specs.Theorems.{RecordFor}
+use Rattle.elements.specs.Theorems.{ElementExact, ElementShows}
 use Rattle.lookups.proofs.FoundLaws.{structure-fits, entry-sound, record-of-found, found-of-record}
-use Rattle.lookups.proofs.ElementFound.{element-found, element-of, found-element}
-use Rattle.lookups.proofs.ElementLaws.{fixed-starts, fixed-extent}
-use Rattle.lookups.proofs.SingleLaws.{strings-before, string-single}
+use Rattle.elements.proofs.ElementFound.{element-found, element-of, found-element}
+use Rattle.elements.proofs.ElementLaws.{fixed-starts, fixed-extent}
+use Rattle.elements.proofs.SingleLaws.{strings-before, string-single}
 use Rattle.lookups.proofs.AnswerTheorems.{not-empty}
 
 element-data : (s : List ℕ) (which tag ty i k : ℕ) → soundCheck s ≡ Pass → RecordFor s (structureOf s which) tag ty i
     → k < recordAt s (structureOf s which) i .count

@@ -1,8 +1,8 @@
 -- By the case of the look-up. Assumes nothing.
-use Rattle.lookups.proofs.PartLaws as laws
+use Rattle.elements.proofs.PartLaws as laws
 use borrow.Author.Needs.{needs}
-use Rattle.lookups.proofs.seek_element.Statement.{statement}
-use Rattle.lookups.proofs.seek_element.Tie as tie
+use Rattle.elements.proofs.seek_element.Statement.{statement}
+use Rattle.elements.proofs.seek_element.Tie as tie
 
 seek-requires : tie.Need-seek-requires
 seek-requires c κs = search needs
@@ -13,8 +13,8 @@ enum-known-found c = search needs
 enum-known-found-2 : tie.Need-enum-known-found-2
 enum-known-found-2 c = search needs
 
-element-requires : tie.Need-element-requires
-element-requires c κs = search laws.seek-bounded
+element-of-requires : tie.Need-element-of-requires
+element-of-requires c κs = search laws.seek-bounded
 
 returns : tie.Need-returns
 returns c = search laws.seek-refused
@@ -32,7 +32,7 @@ seek-element-spec =
     seek-requires
     enum-known-found
     enum-known-found-2
-    element-requires
+    element-of-requires
     returns
     returns-2
     returns-3)

@@ -13,8 +13,9 @@ use Rattle.strings.proofs.RowLaws.{string-at, single-ends, single-text}
 use Rattle.entries.specs.declared.types.ElementSize.the-variants.{ToZero}
 use Rattle.index.specs.declared.Entry.{Entry}
 use Rattle.entries.specs.Types.{elementSize}
-use Rattle.lookups.specs.Lookup.{entryBytes, elementOf}
-use Rattle.lookups.specs.Theorems.{SingleString}
+use Rattle.lookups.specs.Lookup.{entryBytes}
+use Rattle.elements.specs.Elements.{elementOf}
+use Rattle.elements.specs.Theorems.{SingleString}
 
 -- the bytes of a single string
 module _ (s : List ℕ) (room at e : ℕ) (h : stringsFrom s room at 1 ≡ Ends e) (fits : e ≤ length s) where

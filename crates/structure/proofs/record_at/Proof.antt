@@ -1,8 +1,8 @@
 -- The four numbers are read one by one. Assumes nothing.
-use Rattle.entries.proofs.EntryLaws as laws
+use Rattle.structure.proofs.RecordsLaws as laws
 use borrow.Author.Needs.{needs}
-use Rattle.entries.proofs.record_at.Statement.{statement}
-use Rattle.entries.proofs.record_at.Tie as tie
+use Rattle.structure.proofs.record_at.Statement.{statement}
+use Rattle.structure.proofs.record_at.Tie as tie
 
 index-record-requires : tie.Need-index-record-requires
 index-record-requires c κs = search needs

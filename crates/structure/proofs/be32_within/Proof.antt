@@ -1,8 +1,8 @@
 -- The four bytes, joined. Assumes nothing.
 use Rattle.be.specs.Numbers.{be32At}
 use borrow.Author.Needs.{needs}
-use Rattle.entries.proofs.be32_within.Statement.{statement}
-use Rattle.entries.proofs.be32_within.Tie as tie
+use Rattle.structure.proofs.be32_within.Statement.{statement}
+use Rattle.structure.proofs.be32_within.Tie as tie
 
 shared-slice-read-join32 : tie.Need-shared-slice-read-join32
 shared-slice-read-join32 c = search needs

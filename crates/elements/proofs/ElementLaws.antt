@@ -18,12 +18,13 @@ use Rattle.index.specs.declared.Entry.{Entry}
 use Rattle.entries.specs.Types.{elementSize}
 use Rattle.index.specs.Lookup.{extentTo, entryAt}
 use Rattle.structure.specs.Sound.{SoundEntry}
 use Rattle.lookups.specs.declared.Sought.the-variants.{Here}
 use Rattle.package.specs.Package.{structureOf}
-use Rattle.lookups.specs.Lookup.{sought, entryBytes, soughtBytes, elementOf}
-use Rattle.lookups.specs.Theorems.{elementsFrom, ElementsInARow, elementsShown, ElementsShown}
+use Rattle.lookups.specs.Lookup.{sought, entryBytes, soughtBytes}
+use Rattle.elements.specs.Elements.{elementOf}
+use Rattle.elements.specs.Theorems.{elementsFrom, ElementsInARow, elementsShown, ElementsShown}
 use Rattle.lookups.proofs.FoundLaws.{found-of-record, found-sound}
-use Rattle.lookups.proofs.ElementFound.{element-found}
+use Rattle.elements.proofs.ElementFound.{element-found}
 
 -- where element k lies from b k to b (k + 1), the elements from k on are the part up to the last
 module _ (s : List ℕ) (entry : Entry) (b : ℕ → ℕ)

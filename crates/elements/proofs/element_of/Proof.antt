@@ -1,10 +1,10 @@
 -- By the element size. Assumes nothing.
 use native.Mathlib.Omega.{arith}
 use Rattle.entries.proofs.EntryLaws.{product}
-use Rattle.lookups.proofs.PartLaws as laws
+use Rattle.elements.proofs.PartLaws as laws
 use borrow.Author.Needs.{needs}
-use Rattle.lookups.proofs.element.Statement.{statement}
-use Rattle.lookups.proofs.element.Tie as tie
+use Rattle.elements.proofs.element_of.Statement.{statement}
+use Rattle.elements.proofs.element_of.Tie as tie
 
 element-size-requires : tie.Need-element-size-requires
 element-size-requires c κs = search needs
@@ -44,8 +44,8 @@ returns-2 c = search laws.element-string
 returns-3 : tie.Need-returns-3
 returns-3 c = search laws.element-unlawful
 
-pub element-spec : {M : Type 1} → statement M
-element-spec =
+pub element-of-spec : {M : Type 1} → statement M
+element-of-spec =
     tie.close
     (tie.spec
     element-size-requires

@@ -1,9 +1,9 @@
 -- The bytes of what was sought. Assumes nothing.
 use mathlib.Core.Path.{ap, _∙_}
 use Rattle.lookups.specs.Lookup.{soughtBytes}
 use borrow.Author.Needs.{needs}
-use Rattle.lookups.proofs.find_element.Statement.{statement}
-use Rattle.lookups.proofs.find_element.Tie as tie
+use Rattle.elements.proofs.find_element.Statement.{statement}
+use Rattle.elements.proofs.find_element.Tie as tie
 
 seek-element-requires : tie.Need-seek-element-requires
 seek-element-requires c κs = search needs

@@ -5,23 +5,27 @@ use mathlib.Core.List.{List}
 use mathlib.Core.Bool.{Bool, true, false, cond}
 use lib.ListN.{length}
 use lib.Dec.{ltb}
+use mir.Syntax.{w32}
+use mir.Val.{Fits}
 use native.Mathlib.Omega.{arith}
 use native.Mathlib.Nat.{mul-le-mul-left}
-use borrow.Author.Tests.{lt-ltb, le-ltb, ltb-true}
+use borrow.Author.Tests.{le-leb, lt-leb, lt-ltb, le-ltb, ltb-true}
 use Rattle.strings.specs.declared.Ending.{Ending}
 use Rattle.strings.specs.declared.Ending.the-variants.{Ends, Open}
 use Rattle.strings.specs.Strings.{stringsFrom}
 use Rattle.strings.proofs.StringLaws.{bound}
+use Rattle.format.specs.Sizes.{packageLimit}
 use Rattle.entries.specs.declared.types.ElementSize.{ElementSize}
 use Rattle.entries.specs.declared.types.ElementSize.the-variants.{Bytes, ToZero, Unlawful}
 use Rattle.index.specs.declared.Entry.{Entry}
 use Rattle.entries.specs.Types.{elementSize}
 use Rattle.index.specs.Lookup.{extentTo}
 use Rattle.structure.specs.Sound.{SoundEntry}
 use Rattle.lookups.specs.declared.Sought.{Sought}
 use Rattle.lookups.specs.declared.Sought.the-variants.{Here, Refused}
-use Rattle.lookups.specs.Lookup.{sought, stringPart, elementFor, elementOf, elementAs, soughtElement}
+use Rattle.lookups.specs.Lookup.{sought}
+use Rattle.elements.specs.Elements.{stringPart, elementFor, elementOf, elementIn, elementAs, soughtElement}
 use Rattle.lookups.proofs.SeekLaws.{sought-sound}
 
 -- a single string, by where the run before it ended
 module _ (s : List ℕ) (entry : Entry) {run : Ending} where
@@ -80,7 +84,7 @@ module _ (s : List ℕ) (which tag ty k : ℕ) {r : Sought} (p : r ≡ sought s 
   unfolding soughtElement
   seek-refused h = rw (sym p ∙ h)
 
-  pub seek-bounded : {entry : Entry} → r ≡ Here entry → entry .at .0 + entry .extent ≤ 65536
+  pub seek-bounded : {entry : Entry} → r ≡ Here entry → entry .at .0 + entry .extent ≤ packageLimit
   seek-bounded {entry} h =
       let b = sought-sound s which tag ty entry (sym p ∙ h) in
       let i = b .0 .inside in
@@ -97,10 +101,11 @@ module _ (s : List ℕ) (which tag ty k : ℕ) {r : Sought} (p : r ≡ sought s 
 
 -- an element that was sought starts at a 32-bit place
 as-small : (s : List ℕ) (which tag ty k : ℕ) (r : Sought) → sought s which tag ty ≡ r → (e : Entry) → elementAs s k r ≡ Here e
-    → e .at .0 < 4294967296
+    → e .at .0 ≤ packageLimit
 as-small s which tag ty k (Here entry) h e q = go (ltb k (entry .count)) refl q
   where
-    go : (b : Bool) → ltb k (entry .count) ≡ b → cond b (Here (elementOf s entry k)) (Refused 26 0) ≡ Here e → e .at .0 < 4294967296
+    go : (b : Bool) → ltb k (entry .count) ≡ b → cond b (Here (elementOf s entry k)) (Refused 26 0) ≡ Here e
+        → e .at .0 ≤ packageLimit
     go true t j =
         let w : elementOf s entry k ≡ e = cc in
         let b = sought-sound s which tag ty entry h in
@@ -110,7 +115,24 @@ as-small s which tag ty k (Here entry) h e q = go (ltb k (entry .count)) refl q
     go false t j = let z : _≡_ {A = ℕ} 0 1 = cc in omega arith
 as-small s which tag ty k (Refused number place) h e q = let z : _≡_ {A = ℕ} 0 1 = cc in omega arith
 
-pub element-small : (s : List ℕ) (which tag ty k : ℕ) {found : Sought} → found ≡ soughtElement s which tag ty k → (e : Entry)
-    → found ≡ Here e → e .at .0 < 4294967296
+pub element-fits : (s : List ℕ) (which tag ty k : ℕ) {found : Sought} {e : Entry} → found ≡ soughtElement s which tag ty k
+    → found ≡ Here e → Fits w32 (e .at .0)
 unfolding soughtElement
-element-small s which tag ty k p e h = as-small s which tag ty k (sought s which tag ty) refl e (sym p ∙ h)
+element-fits s which tag ty k {e = e} p h =
+    let l = as-small s which tag ty k (sought s which tag ty) refl e (sym p ∙ h) in
+    record { fits = omega arith }
+
+-- an element of any entry
+module _ (s : List ℕ) (entry : Entry) (k : ℕ) where
+  pub in-package : {r : Entry} → entry .at .0 ≤ packageLimit → entry .extent ≤ packageLimit - entry .at .0
+      → r ≡ elementOf s entry k → r ≡ elementIn s entry k
+  in-package a b q = rw (le-leb (entry .at .0 + entry .extent) packageLimit (omega arith)) q
+
+  pub in-none : packageLimit < entry .at .0 + entry .extent
+      → _≡_ {A = Entry} (record { ty = entry .ty; count = 1; at = entry .at; extent = 0 }) (elementIn s entry k)
+  in-none l = rw (lt-leb (entry .at .0 + entry .extent) packageLimit l)
+
+  -- and what such an element is, of an entry in a package
+  pub in-of : {r : Entry} → entry .at .0 + entry .extent ≤ packageLimit → r ≡ elementIn s entry k
+      → r ≡ elementOf s entry k
+  in-of l q = q ∙ rw (le-leb (entry .at .0 + entry .extent) packageLimit l)

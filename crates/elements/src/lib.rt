@@ -1,0 +1,132 @@
+// Look-ups of the elements of an entry.
+ghost use mathlib.Core.Path.{_≡_};
+ghost use Prim.Native.Nat.{_+_, _≤_};
+ghost use Rattle.format.specs.Sizes.{packageLimit};
+ghost use Rattle.elements.specs.Elements.{stringPart, elementOf, elementIn, soughtElement, findElementBytes, findElementAnswer};
+use entries::ElementSize;
+use entries::types::element_size;
+use format::Answer;
+use format::FileOffset;
+use index::Entry;
+use lookups::Sought;
+use lookups::seek;
+use lookups::shown;
+use strings::Ending;
+
+// The single string that starts where a run of strings ended.
+fn string_part(pkg: &[u8], entry: Entry, run: Ending) -> Entry
+    requires { ⌜ entry .at .0 + entry .extent ≤ packageLimit ⌝ }
+    ensures { λ r. ⌜ r ≡ stringPart (now (pkg .entry)) entry run ⌝ }
+{
+    match run {
+        Ending::Ends(from) => {
+            let end = entry.at.0 + entry.extent;
+            let next = strings::strings_end(pkg, from, end, 1);
+            let extent = index::extent_to(from, next);
+            Entry {
+                ty: entry.ty,
+                count: 1,
+                at: FileOffset(from),
+                extent: extent,
+            }
+        }
+        Ending::Open => {
+            let at = entry.at;
+            Entry {
+                ty: entry.ty,
+                count: 1,
+                at: at,
+                extent: 0,
+            }
+        }
+    }
+}
+
+// Element `k` of an entry that lies in a package, as an entry of count 1.
+fn element_of(pkg: &[u8], entry: Entry, k: u32) -> Entry
+    requires { ⌜ entry .at .0 + entry .extent ≤ packageLimit ⌝ }
+    ensures { λ r. ⌜ r ≡ elementOf (now (pkg .entry)) entry k ⌝ }
+{
+    let size = element_size(entry.ty);
+    let at = entry.at;
+    match size {
+        ElementSize::Bytes(n) => {
+            let before = n * k as usize;
+            let from = at.0 + before;
+            Entry {
+                ty: entry.ty,
+                count: 1,
+                at: FileOffset(from),
+                extent: n,
+            }
+        }
+        ElementSize::ToZero => {
+            let end = at.0 + entry.extent;
+            let run = strings::strings_end(pkg, at.0, end, k);
+            string_part(pkg, entry, run)
+        }
+        ElementSize::Unlawful => Entry {
+            ty: entry.ty,
+            count: 1,
+            at: at,
+            extent: 0,
+        },
+    }
+}
+
+// The same of any entry: one that lies in no package has an empty element.
+pub fn element(pkg: &[u8], entry: Entry, k: u32) -> Entry
+    ensures { λ r. ⌜ r ≡ elementIn (now (pkg .entry)) entry k ⌝ }
+{
+    let at = entry.at;
+    if at.0 <= FileOffset::LIMIT {
+        let room = FileOffset::LIMIT - at.0;
+        if entry.extent <= room {
+            return element_of(pkg, entry, k);
+        }
+    }
+    Entry {
+        ty: entry.ty,
+        count: 1,
+        at: at,
+        extent: 0,
+    }
+}
+
+// Checks 2 to 13, 25 and 26: element `k` of the entry of a structure with the tag and the type.
+fn seek_element(pkg: &[u8], which: u32, tag: u32, ty: u32, k: u32) -> Sought
+    ensures { λ r. ⌜ r ≡ soughtElement (now (pkg .entry)) which tag ty k ⌝ }
+{
+    let found = seek(pkg, which, tag, ty);
+    match found {
+        Sought::Refused(number, place) => Sought::Refused(number, place),
+        Sought::Here(entry) => {
+            if k < entry.count {
+                Sought::Here(element_of(pkg, entry, k))
+            } else {
+                Sought::Refused(26, 0)
+            }
+        }
+    }
+}
+
+// The bytes of element `k`, a single string with its zero byte; an empty part where a check of 2 to 13, 25 or 26 fails.
+pub fn find_element(pkg: &[u8], which: u32, tag: u32, ty: u32, k: u32) -> &[u8]
+    ensures { λ r. ⌜ now r ≡ findElementBytes (now (pkg .entry)) which tag ty k ⌝ }
+{
+    shown(pkg, seek_element(pkg, which, tag, ty, k))
+}
+
+// Number and place of an element look-up: 0 and the element's file offset, or the first failing check.
+pub fn find_element_answer(pkg: &[u8], which: u32, tag: u32, ty: u32, k: u32) -> Answer
+    ensures { λ r. ⌜ r ≡ findElementAnswer (now (pkg .entry)) which tag ty k ⌝ }
+{
+    let found = seek_element(pkg, which, tag, ty, k);
+    match found {
+        Sought::Here(entry) => {
+            let place = entry.at.0 as u32;
+            Answer::Done(place)
+        }
+        Sought::Refused(number, place) => Answer::Refused(number, place),
+    }
+}
