@@ -1,7 +1,7 @@
 // Checks 14 and 15: the lines of the catalogue.
 ghost use mathlib.Core.Path.{_≡_};
-ghost use Prim.Native.Nat.{ℕ, _-_, _≤_};
-ghost use Rattle.catalogue.specs.Catalogue.{catalogue, lineCount, inEdition, lineAt};
+ghost use Prim.Native.Nat.{ℕ, _-_};
+ghost use Rattle.catalogue.specs.Catalogue.{catalogue, flat, inEdition, lineAt};
 ghost use Rattle.lines.specs.Lines.{lineCheck, lineIf, linesFrom, linesCheck};
 use catalogue::Line;
 use format::Section;
@@ -46,19 +46,18 @@ fn line_if(edition: u32, pkg: &[u8], section: Section, line: Line) -> Verdict
 // Checks 14 and 15 for the lines from number `from` up to number `to`, in order.
 fn lines_from(
     edition: u32,
-    table: [[u32; 4]; Line::ALL],
+    table: &[u32; Line::NUMBERS],
     pkg: &[u8],
     section: Section,
     from: usize,
     to: usize,
 ) -> Verdict
-    requires { ⌜ (table ≡ catalogue) × (to ≤ lineCount) ⌝ }
+    requires { ⌜ now table ≡ flat catalogue ⌝ }
     ensures { λ r. ⌜ r ≡ linesFrom lineAt (inEdition edition) (now (pkg .entry)) section (to - from) from ⌝ }
 {
     let mut i = from;
     while i < to {
-        let numbers = table[i];
-        let v = line_if(edition, pkg, section, Line::of(numbers));
+        let v = line_if(edition, pkg, section, Line::in_table(table, i));
         if let Verdict::Fail(number, place) = v {
             return Verdict::Fail(number, place);
         }
@@ -72,9 +71,9 @@ pub fn check(edition: u32, pkg: &[u8], signature: Section, header: Section) -> V
     ensures { λ r. ⌜ r ≡ linesCheck (inEdition edition) (now (pkg .entry)) signature header ⌝ }
 {
     let table = catalogue::table();
-    let v = lines_from(edition, table, pkg, signature, 0, Line::SIGNATURE);
+    let v = lines_from(edition, &table, pkg, signature, 0, Line::SIGNATURE);
     if let Verdict::Fail(number, place) = v {
         return Verdict::Fail(number, place);
     }
-    lines_from(edition, table, pkg, header, Line::SIGNATURE, Line::ALL)
+    lines_from(edition, &table, pkg, header, Line::SIGNATURE, Line::ALL)
 }
