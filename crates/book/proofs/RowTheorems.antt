@@ -111,15 +111,15 @@ module _ (known : ℕ → Bool) (hold : HoldDoses known) (b : List ℕ) where
       let e = rows.end-here b at r (rowBytes rest) from s in
       let f = rows.ends b at r (rowBytes rest) from in
       let dose : 128 ≤ r .kind → stated r ≡ doseAt b at =
-          λ w. let m = hold (r .kind) (l w .kind) w in rows.dose-here b at r (rowBytes rest) from (omega arith) in
+      λ w. let m = hold (r .kind) (l w .kind) w in rows.dose-here b at r (rowBytes rest) from (omega arith) in
       rw (
         asked (kindAt b at) (known (kindAt b at)) (λ w. ap known k ∙ l (omega arith) .kind),
         le-leb (recordEnd b at) (length b) (omega arith),
         asked (kindAt b at) (doseLawful (doseAt b at)) (
-          λ w.
-              let v : 128 ≤ r .kind = omega arith in
-              sym (ap doseLawful (dose v)) ∙ lawful-of (stated r) (l v .oxide) (l v .milligrams)
-        ),
+            λ w.
+            let v : 128 ≤ r .kind = omega arith in
+            sym (ap doseLawful (dose v)) ∙ lawful-of (stated r) (l v .oxide) (l v .milligrams)
+            ),
       )
 
   rows-pass : (row : List BookRecord) (at : ℕ) → drop at b ≡ rowBytes row → Each Sized row → LawfulRow known row
@@ -177,8 +177,8 @@ module _ (known : ℕ → Bool) (hold : HoldDoses known) (b : List ℕ) where
       let rest = later m (f .1) in (
         there at ∷ rest .0,
         rows.row-step (there at) (rest .0)
-        ∙ ap (λ (t : List ℕ). kindAt b at ∷ (there at .body ++ t)) (rest .1)
-        ∙ sym (there-bytes at l m),
+            ∙ ap (λ (t : List ℕ). kindAt b at ∷ (there at .body ++ t)) (rest .1)
+            ∙ sym (there-bytes at l m),
         (there-sized at l m, rest .2),
         (there-lawful at l m (f .0), rest .3),
       )

@@ -1,6 +1,6 @@
 -- Demand 2: the checks of an edition block by block (rules-lawful, part-lawful), together (checks-lawful), and demand2.
 use Prim.Native.Nat.{ℕ, _-_, _≤_}
-use mathlib.Core.Path.{_≡_}
+use mathlib.Core.Path.{_≡_, sym, _∙_}
 use mathlib.Core.Logic.{_↔_, Iff·trans}
 use mathlib.Core.List.{List}
 use mathlib.Core.Bool.{true}
@@ -15,6 +15,8 @@ use Rattle.format.specs.Places.{inFile}
 use Rattle.package.specs.Package.{headerStart, signatureAt, headerAt}
 use Rattle.rules.specs.Rules.{rulesCheck}
 use Rattle.book.specs.Doses.{doses, sumOf}
+use Rattle.book.specs.RowTheorems.{HoldDoses}
+use Rattle.book.proofs.RowTheorems.{known-hold}
 use Rattle.reading.specs.Editions.{Edition, editionOf, batchTag, hasBatch}
 use Rattle.reading.specs.Reading.{editionCheck, bookOf, needed, roomCheck, bookPart, openedCheck, checksAt}
 use Rattle.reading.specs.Reading.{readingCheck}
@@ -30,9 +32,9 @@ use Rattle.demands.proofs.NumberLawful.{Keeps, size-there, states-there
 use Rattle.demands.proofs.NumberLawful.{size-lawful, batch-lawful}
 use Rattle.demands.proofs.GroupLawful.{groups-lawful, directories-there}
 use Rattle.demands.proofs.TextLawful.{texts-lawful}
-use Rattle.demands.proofs.BookLawful.{book-lawful}
+use Rattle.demands.proofs.BookLawful.{book-lawful, book-sum}
 
--- the rules of the two numbers, as LawfulPackage has them
+-- the rules of the two numbers
 abbrev Payload : List ℕ → Type 0
 Payload s =
     WhereTagged s (signatureAt s) 1000
@@ -64,13 +66,14 @@ module _ (edition : Edition) (s : List ℕ) where
   room-passes room fits = last-iff _ _ _ .1 (le-leb _ _ fits)
 
   -- 19 to 24, with room for the doses
-  part-lawful : (room : ℕ) → needed (bookOf s) ≤ room → Apart s (headerAt s) → LawfulLines edition s
+  part-lawful : HoldDoses (edition .known) → (room : ℕ) → needed (bookOf s) ≤ room → Apart s (headerAt s)
+      → LawfulLines edition s
       → (bookPart edition s (headerAt s) room (bookOf s) ≡ Pass)
       ↔ (LawfulBook (edition .known) (bookOf s) × (Batch edition s × Unit {0}))
   unfolding bookPart
-  part-lawful room fits header lines =
+  part-lawful hold room fits header lines =
       let sum = sumOf (doses (bookOf s)) in
-      then-iff _ _ (book-lawful (edition .known) (bookOf s)) λ book.
+      then-iff _ _ (book-lawful (edition .known) hold (bookOf s)) λ book.
       then-iff _ _ (batch-lawful edition s (headerAt s) sum header (batch-there edition s lines)) λ batch.
       (λ h. tt, λ h. room-passes room fits)
 
@@ -83,15 +86,16 @@ module _ (edition : Edition) (s : List ℕ) where
       × (Payload s × (LawfulGroups s (signatureAt s) (headerAt s) × LawfulTexts s (headerAt s))))
       × (LawfulBook (edition .known) (bookOf s) × (Batch edition s × Unit {0})))
 
-  blocks-lawful : Keeps edition → (room : ℕ) → needed (bookOf s) ≤ room → (checksAt edition s room ≡ Pass) ↔ Blocks
+  blocks-lawful : Keeps edition → HoldDoses (edition .known) → (room : ℕ) → needed (bookOf s) ≤ room
+      → (checksAt edition s room ≡ Pass) ↔ Blocks
   unfolding checksAt openedCheck
-  blocks-lawful keeps room fits =
+  blocks-lawful keeps hold room fits =
       then-iff _ _ (sound-lawful s) λ sound.
       then-iff _ _ (rules-lawful keeps (sound .3 .tags) (sound .4 .tags)) λ rules.
-      part-lawful room fits (sound .4 .tags) (rules .0)
+      part-lawful hold room fits (sound .4 .tags) (rules .0)
 
-  package-lawful : Blocks ↔ LawfulPackage edition s
-  package-lawful = (
+  package-lawful : HoldDoses (edition .known) → Blocks ↔ LawfulPackage edition s
+  package-lawful hold = (
     λ (sound, (rules, part)).
         record {
           most = sound .0;
@@ -104,19 +108,19 @@ module _ (edition : Edition) (s : List ℕ) where
           groups = rules .1 .1 .0;
           texts = rules .1 .1 .1;
           book = part .0;
-          batch = part .1 .0;
+          batch = λ h i l t. part .1 .0 h i l t ∙ book-sum (edition .known) hold (bookOf s) (part .0);
         },
     λ r. (
       (r .most, r .least, r .lead, r .signature, r .header),
-      ((r .lines, (r .payload, (r .groups, r .texts))), (r .book, (r .batch, tt))),
+      ((r .lines, (r .payload, (r .groups, r .texts))), (r .book, (λ h i l t. r .batch h i l t ∙ sym (book-sum (edition .known) hold (bookOf s) (r .book)), tt))),
     ),
   )
 
--- of any edition that has edition 1's lines
-pub checks-lawful : (edition : Edition) → Keeps edition → (s : List ℕ) (room : ℕ) → needed (bookOf s) ≤ room
-    → (checksAt edition s room ≡ Pass) ↔ LawfulPackage edition s
-checks-lawful edition keeps s room fits =
-    Iff·trans (blocks-lawful edition s keeps room fits) (package-lawful edition s)
+-- of any edition that has edition 1's lines, and whose weighed kinds hold a dose
+pub checks-lawful : (edition : Edition) → Keeps edition → HoldDoses (edition .known) → (s : List ℕ) (room : ℕ)
+    → needed (bookOf s) ≤ room → (checksAt edition s room ≡ Pass) ↔ LawfulPackage edition s
+checks-lawful edition keeps hold s room fits =
+    Iff·trans (blocks-lawful edition s keeps hold room fits) (package-lawful edition s hold)
 
 -- 1
 edition-passes : (edition : ℕ) → 1 ≤ edition → edition ≤ 2 → editionCheck edition ≡ Pass
@@ -129,7 +133,7 @@ lines-kept edition l line h = le-leb (line .status) edition (let k = leb-true (l
 pub demand2 : Demand2
 unfolding readingCheck
 demand2 edition s before l m fits =
-    let checks = checks-lawful (editionOf edition) (lines-kept edition l) s (length before) fits in (
+    let checks = checks-lawful (editionOf edition) (lines-kept edition l) (known-hold edition) s (length before) fits in (
       λ h. checks .0 (both-iff _ _ .0 (done _ _ h .0) .1),
       λ r. rw (both-iff _ _ .1 (edition-passes edition l m, checks .1 r)),
     )

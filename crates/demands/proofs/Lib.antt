@@ -20,3 +20,4 @@ pub mod TextLawful
 pub mod NumberLawful
 pub mod Demand2
 pub mod BothLaws
+pub mod RowStated

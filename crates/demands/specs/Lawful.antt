@@ -24,9 +24,8 @@ use Rattle.catalogue.specs.declared.Line.{Line}
 use Rattle.catalogue.specs.Catalogue.{lineAt, signatureCount, lineCount}
 use Rattle.groups.specs.Groups.{fileTags}
 use Rattle.texts.specs.Texts.{linux, binSh}
-use Rattle.book.specs.Kinds.{isWeighed}
-use Rattle.book.specs.Book.{bookLimit, kindAt, recordEnd, places, doseAt}
-use Rattle.book.specs.Doses.{doses, sumOf}
+use Rattle.book.specs.Book.{bookLimit}
+use Rattle.book.specs.Rows.{BookRecord, IsRow, statedSum, LawfulRow}
 use Rattle.reading.specs.Editions.{Edition, batchTag, hasBatch}
 use Rattle.reading.specs.Reading.{bookOf}
 
@@ -159,20 +158,12 @@ pub record LawfulTexts (s : List ℕ) (header : Section) : Type 0 where
       (λ (entry : Entry). (z : ℕ) → entry .at .0 ≤ z → z < entry .at .0 + entry .extent → getD s z 0 ≡ 0
       → (entry .at .0 < z) × (getD s (z - 1) 0 ≡ 0x2F))
 
--- "Book": a record at a place
-pub record LawfulBookRecord (known : ℕ → Bool) (b : List ℕ) (at : ℕ) : Type 0 where
-  -- an unknown weighed kind is refused
-  pub kind : isWeighed (kindAt b at) ≡ true → known (kindAt b at) ≡ true
-  -- the body is in the book
-  pub body : recordEnd b at ≤ length b
-  -- oxide is 1 to 999, milligrams 1 to 5,000,000
-  pub oxide : isWeighed (kindAt b at) ≡ true → (1 ≤ doseAt b at .oxide .0) × (doseAt b at .oxide .0 ≤ 999)
-  pub milligrams : isWeighed (kindAt b at) ≡ true
-      → (1 ≤ doseAt b at .milligrams .0) × (doseAt b at .milligrams .0 ≤ 5000000)
-
+-- "Book": at most 4,096 bytes, which are a row of lawful records
 pub record LawfulBook (known : ℕ → Bool) (b : List ℕ) : Type 0 where
   pub size : length b ≤ bookLimit
-  pub records : (i : ℕ) → i < length (places b) → LawfulBookRecord known b (getD (places b) i 0)
+  pub row : List BookRecord
+  pub isRow : IsRow b row
+  pub lawful : LawfulRow known row
 
 -- a right package at an edition
 pub record LawfulPackage (edition : Edition) (s : List ℕ) : Type 0 where
@@ -188,7 +179,7 @@ pub record LawfulPackage (edition : Edition) (s : List ℕ) : Type 0 where
   pub groups : LawfulGroups s (signatureAt s) (headerAt s)
   pub texts : LawfulTexts s (headerAt s)
   pub book : LawfulBook (edition .known) (bookOf s)
-  -- where the edition has the batch weight's line, the doses' sum equals its value
+  -- where the edition has the batch weight's line, the sum of what the book's records state equals its value
   pub batch : hasBatch edition ≡ true
       → WhereTagged s (headerAt s) batchTag
-      (λ (e : IndexRecord). be32At s (inFile (headerAt s) (e .offset)) ≡ sumOf (doses (bookOf s)))
+      (λ (e : IndexRecord). be32At s (inFile (headerAt s) (e .offset)) ≡ statedSum (book .row))
