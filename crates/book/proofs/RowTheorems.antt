@@ -1,5 +1,5 @@
--- A book's bytes as a row of records, as specs/RowTheorems states it: one-way, row-doses, pass-is-row. For callers: of
--- the kinds of an edition (known-hold), and of a lawful row (lawful-hold).
+-- A book's bytes as a row of records, as specs/RowTheorems states it: one-way, row-doses, row-sum, pass-is-row. For
+-- callers: of the kinds of an edition (known-hold), and of a lawful row (lawful-hold).
 use Prim.Native.Nat.{ℕ, zero, suc, _+_, _-_, _%_, _≤_, _<_}
 use mathlib.Core.Path.{_≡_, refl, sym, ap, _∙_}
 use mathlib.Core.List.{List, [], _∷_, _++_}
@@ -17,9 +17,9 @@ use Rattle.format.proofs.VerdictLaws.{both-pass}
 use Rattle.book.specs.declared.dose.Dose.{Dose}
 use Rattle.book.specs.Kinds.{isWeighed, bodySize, isKnown}
 use Rattle.book.specs.Book.{kindAt, recordEnd, placesFrom, doseAt, doseLawful, recordCheck, recordsCheck}
-use Rattle.book.specs.Doses.{dosesOf}
+use Rattle.book.specs.Doses.{dosesOf, sumOf}
 use Rattle.book.specs.Rows.{BookRecord, rowBytes, Each, Sized, stated, statedDoses, LawfulWeighed, LawfulRow}
-use Rattle.book.specs.RowTheorems.{OneRow, HoldsDose, HoldDoses, PassIsRow, RowDoses}
+use Rattle.book.specs.RowTheorems.{OneRow, HoldsDose, HoldDoses, PassIsRow, RowDoses, RowSum}
 use Rattle.book.proofs.PlaceLaws.{none, step}
 use Rattle.book.proofs.DoseLaws.{weight-last}
 use Rattle.book.proofs.RecordsLaws.{six, walk, weighed, remark, no-doses, check-step, check-nil}
@@ -87,6 +87,9 @@ pub row-doses : RowDoses
 row-doses b row p d =
     ap (λ (n : ℕ). dosesOf b (placesFrom b n 0)) (sym (sub-zero (length b)))
     ∙ doses-from b row 0 (sym (p .bytes)) (p .bodies) d
+
+pub row-sum : RowSum
+row-sum b row p d = ap sumOf (row-doses b row p d)
 
 -- what is asked of weighed records only
 asked : (kind : ℕ) (rule : Bool) → (128 ≤ kind → rule ≡ true) → cond (isWeighed kind) rule true ≡ true

@@ -1,4 +1,5 @@
--- What is proved of a book's bytes and the rows of records that they are: OneRow, PassIsRow, RowDoses.
+-- What is proved of a book's bytes and the rows of records that they are: OneRow, PassIsRow, RowDoses,
+-- RowSum.
 use Prim.Native.Nat.{ℕ, _%_, _≤_}
 use mathlib.Core.Path.{_≡_}
 use mathlib.Core.Logic.{_↔_}
@@ -7,8 +8,8 @@ use mathlib.Core.Bool.{Bool, true}
 use lib.ListN.{length}
 use Rattle.format.specs.declared.verdict.Verdict.the-variants.{Pass}
 use Rattle.book.specs.Book.{places, recordsCheck}
-use Rattle.book.specs.Doses.{doses}
-use Rattle.book.specs.Rows.{BookRecord, Each, IsRow, statedDoses, LawfulRow}
+use Rattle.book.specs.Doses.{doses, sumOf}
+use Rattle.book.specs.Rows.{BookRecord, Each, IsRow, statedDoses, statedSum, LawfulRow}
 
 -- some bytes are a row in one way only
 abbrev pub OneRow : Type 0
@@ -31,3 +32,6 @@ PassIsRow =
 -- the doses of a book are those that the weighed records of its row state, in order
 abbrev pub RowDoses : Type 0
 RowDoses = (b : List ℕ) (row : List BookRecord) → IsRow b row → Each HoldsDose row → doses b ≡ statedDoses row
+
+abbrev pub RowSum : Type 0
+RowSum = (b : List ℕ) (row : List BookRecord) → IsRow b row → Each HoldsDose row → sumOf (doses b) ≡ statedSum row

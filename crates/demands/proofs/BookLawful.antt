@@ -1,6 +1,6 @@
 -- Checks 19 to 22 pass exactly on a lawful book: book-lawful. The sum of its doses is what its records state: book-sum.
 use Prim.Native.Nat.{ℕ}
-use mathlib.Core.Path.{_≡_, ap}
+use mathlib.Core.Path.{_≡_}
 use mathlib.Core.Logic.{_↔_}
 use mathlib.Core.List.{List}
 use mathlib.Core.Bool.{Bool}
@@ -10,7 +10,7 @@ use Rattle.book.specs.Book.{lengthCheck, bookCheck}
 use Rattle.book.specs.Doses.{doses, sumOf}
 use Rattle.book.specs.Rows.{statedSum}
 use Rattle.book.specs.RowTheorems.{HoldDoses}
-use Rattle.book.proofs.RowTheorems.{lawful-hold, row-doses, pass-is-row}
+use Rattle.book.proofs.RowTheorems.{lawful-hold, row-sum, pass-is-row}
 use Rattle.demands.specs.Lawful.{LawfulBook}
 use Rattle.demands.proofs.PassIff.{last-iff, both-iff, leb-iff}
 
@@ -24,4 +24,4 @@ module _ (known : ℕ → Bool) (hold : HoldDoses known) (b : List ℕ) where
       )
 
   pub book-sum : (l : LawfulBook known b) → sumOf (doses b) ≡ statedSum (l .row)
-  book-sum l = ap sumOf (row-doses b (l .row) (l .isRow) (lawful-hold known hold (l .row) (l .isRow .bodies) (l .lawful)))
+  book-sum l = row-sum b (l .row) (l .isRow) (lawful-hold known hold (l .row) (l .isRow .bodies) (l .lawful))
