@@ -11,15 +11,15 @@ use borrow.Author.Tests.{le-leb, lt-leb}
 use Rattle.be.specs.Numbers.{be16At, be32At}
 use Rattle.be.proofs.ByteLaws.{be16-past, be32-past}
 use Rattle.book.specs.declared.dose.Dose.{Dose}
-use Rattle.book.specs.Book.{doseAt, doseLawful}
+use Rattle.book.specs.Book.{oxidePlace, milligramsPlace, doseAt, doseLawful}
 
-pub read : (b : List ℕ) (at : ℕ) {o m : ℕ} → o ≡ be16At b (at + 1) → m ≡ be32At b (at + 3)
+pub read : (b : List ℕ) (at : ℕ) {o m : ℕ} → o ≡ be16At b (at + oxidePlace) → m ≡ be32At b (at + milligramsPlace)
     → _≡_ {A = Dose} (record { oxide = record { 0 = o }; milligrams = record { 0 = m } }) (doseAt b at)
 read b at p q = rw (p, q)
 
 pub past : (b : List ℕ) (at : ℕ) → length b ≤ at
     → _≡_ {A = Dose} (record { oxide = record { 0 = 0 }; milligrams = record { 0 = 0 } }) (doseAt b at)
-past b at h = read b at (be16-past b (at + 1) (omega arith)) (be32-past b (at + 3) (omega arith))
+past b at h = read b at (be16-past b (at + oxidePlace) (omega arith)) (be32-past b (at + milligramsPlace) (omega arith))
 
 module _ (dose : Dose) where
   pub oxide-low : dose .oxide .0 < 1 → false ≡ doseLawful dose

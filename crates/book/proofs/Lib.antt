@@ -4,3 +4,5 @@ pub mod DoseLaws
 pub mod RecordsLaws
 pub mod WeighLaws
 pub mod PassLaws
+pub mod RowLaws
+pub mod RowTheorems

@@ -21,7 +21,7 @@ module _ (b : List ℕ) where
   none zero at h = refl
   none (suc n) at h = rw (le-leb (length b) at h)
 
-  step : (n at : ℕ) → placesFrom b (suc n) at ≡ cond (leb (length b) at) [] (at ∷ placesFrom b n (recordEnd b at))
+  pub step : (n at : ℕ) → placesFrom b (suc n) at ≡ cond (leb (length b) at) [] (at ∷ placesFrom b n (recordEnd b at))
   unfolding placesFrom
   step n at = refl
 

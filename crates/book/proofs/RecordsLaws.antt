@@ -1,6 +1,6 @@
 -- Laws of the walk over a book's records, for each way through a turn: of its doses (weighed, remark, no-doses), of its
 -- checks (turn, ends), of the count and the sum (counted, summed, skipped), and of all where it ends (spent).
-use Prim.Native.Nat.{ℕ, _+_, _-_, _%_, _≤_, _<_}
+use Prim.Native.Nat.{ℕ, _+_, _-_, _≤_, _<_}
 use mathlib.Core.Path.{_≡_, refl, sym, ap, _∙_}
 use mathlib.Core.List.{List, [], _∷_}
 use mathlib.Core.Bool.{Bool, true, false, cond, not, _&&_, _||_}
@@ -28,23 +28,23 @@ doses-nil : (b : List ℕ) → dosesOf b [] ≡ []
 unfolding dosesOf
 doses-nil b = refl
 
-check-step : (known : ℕ → Bool) (b rest : List ℕ) (at : ℕ)
+pub check-step : (known : ℕ → Bool) (b rest : List ℕ) (at : ℕ)
     → recordsCheck known b (at ∷ rest) ≡ both (recordCheck known b at) (recordsCheck known b rest)
 unfolding recordsCheck
 check-step known b rest at = refl
 
-check-nil : (known : ℕ → Bool) (b : List ℕ) → recordsCheck known b [] ≡ Pass
+pub check-nil : (known : ℕ → Bool) (b : List ℕ) → recordsCheck known b [] ≡ Pass
 unfolding recordsCheck
 check-nil known b = refl
 
 -- a weighed kind that is known has a body of six bytes or more
-six : (edition kind : ℕ) → isWeighed kind ≡ true → isKnown edition kind ≡ true → 6 ≤ kind % 16
+pub six : (edition kind : ℕ) → isWeighed kind ≡ true → isKnown edition kind ≡ true → 6 ≤ bodySize kind
 unfolding isKnown
 six edition kind h k = go (eqb kind 0x02) (eqb kind 0x86) (eqb kind 0x14) (eqb kind 0x98) refl refl refl refl k
   where
     go : (p q r t : Bool) → eqb kind 0x02 ≡ p → eqb kind 0x86 ≡ q → eqb kind 0x14 ≡ r → eqb kind 0x98 ≡ t
         → ((p && leb 1 edition) || (q && leb 1 edition) || (r && leb 2 edition) || (t && leb 2 edition)) ≡ true
-        → 6 ≤ kind % 16
+        → 6 ≤ bodySize kind
     go true q r t a b c d z = let w = leb-true 128 kind h in let e = eqb-true kind 0x02 a in absurd (omega arith)
     go false true r t a b c d z = rw (eqb-true kind 0x86 b) (omega arith)
     go false false true t a b c d z = let w = leb-true 128 kind h in let e = eqb-true kind 0x14 c in absurd (omega arith)
@@ -53,7 +53,7 @@ six edition kind h k = go (eqb kind 0x02) (eqb kind 0x86) (eqb kind 0x14) (eqb k
 
 -- w says whether the record is weighed, and end is where the next one starts
 module _ (b : List ℕ) (at : ℕ) (l : at < length b) {end : ℕ} (e : end ≡ recordEnd b at) where
-  walk : placesFrom b (length b - at) at ≡ at ∷ placesFrom b (length b - end) end
+  pub walk : placesFrom b (length b - at) at ≡ at ∷ placesFrom b (length b - end) end
   walk = first b at l ∙ rw e
 
   pub weighed : {w : Bool} {dose : Dose} → w ≡ isWeighed (kindAt b at) → w ≡ true → dose ≡ doseAt b at
@@ -163,12 +163,12 @@ module _ (edition : ℕ) (b : List ℕ) (at : ℕ) (l : at < length b) {end : �
             (rw (sym h ∙ t, sym g ∙ not-false k n, fits m, lawful ∙ not-false o z)) inv e refl
 
 -- a remark without a body
-bare-parts : (kind : ℕ) → isBare kind ≡ true → (isWeighed kind ≡ false) × (kind % 16 ≡ 0)
+bare-parts : (kind : ℕ) → isBare kind ≡ true → (isWeighed kind ≡ false) × (bodySize kind ≡ 0)
 bare-parts kind h = go (isWeighed kind) refl h
   where
-    go : (w : Bool) → isWeighed kind ≡ w → cond w false (eqb (kind % 16) 0) ≡ true → (isWeighed kind ≡ false) × (kind % 16 ≡ 0)
+    go : (w : Bool) → isWeighed kind ≡ w → cond w false (eqb (bodySize kind) 0) ≡ true → (isWeighed kind ≡ false) × (bodySize kind ≡ 0)
     go true e t = let z : _≡_ {A = ℕ} 0 1 = cc in absurd (omega arith)
-    go false e t = (e, eqb-true (kind % 16) 0 t)
+    go false e t = (e, eqb-true (bodySize kind) 0 t)
 
 module _ (b : List ℕ) (at : ℕ) (l : at < length b) {r : Bool} (h : r ≡ isBare (kindAt b at)) (t : r ≡ true) where
   bare-end : at + 1 ≡ recordEnd b at

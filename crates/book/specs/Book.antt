@@ -33,9 +33,19 @@ placesFrom b (suc n) at = cond (leb (length b) at) [] (at ∷ placesFrom b n (re
 abbrev pub places : List ℕ → List ℕ
 places b = placesFrom b (length b) 0
 
--- oxide 2, milligrams 4: every weighed body begins with them
+-- oxide 2, milligrams 4: every weighed body begins with them; where they stand, from the record's place on
+abbrev pub oxidePlace : ℕ
+oxidePlace = 1
+
+abbrev pub milligramsPlace : ℕ
+milligramsPlace = 3
+
 abbrev pub doseAt : List ℕ → ℕ → Dose
-doseAt b at = record { oxide = record { 0 = be16At b (at + 1) }; milligrams = record { 0 = be32At b (at + 3) } }
+doseAt b at =
+    record {
+      oxide = record { 0 = be16At b (at + oxidePlace) };
+      milligrams = record { 0 = be32At b (at + milligramsPlace) };
+    }
 
 -- 20 | unknown weighed kind
 abbrev pub kindAllowed : (ℕ → Bool) → ℕ → Bool

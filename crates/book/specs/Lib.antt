@@ -1,3 +1,5 @@
 pub mod Kinds
 pub mod Book
 pub mod Doses
+pub mod Rows
+pub mod RowTheorems

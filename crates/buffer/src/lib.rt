@@ -10,6 +10,8 @@ use book::Dose;
 use book::body_size;
 use book::is_weighed;
 
+// How many numbers a dose takes in a buffer of numbers.
+const NUMBERS: usize = Dose::NUMBERS as usize;
 // How many bytes a number takes in a buffer of bytes.
 pub const NUMBER_BYTES: usize = 4;
 
@@ -46,7 +48,7 @@ pub fn write(book: &[u8], out: &mut [u32])
         at = here + 1 + body_size(kind);
         if is_weighed(kind) {
             put_dose(out, i, Dose::at(book, here));
-            i += Dose::NUMBERS as usize;
+            i += NUMBERS;
         }
     }
 }

@@ -1,18 +1,19 @@
--- Laws of the catalogue: a line past its end (past), a line of the table (of-table); what a test of every line says of one
--- (each-line); the rule, from one test over the whole table (lawful-of-test, lawful).
-use Prim.Native.Nat.{ℕ, zero, suc, _+_, _-_, _≤_, _<_}
+-- Laws of the catalogue: a line past its end (past), a line of the flat table (past-table, within-table, flat-at,
+-- line-in, in-table); what a test of every line says of one (each-line); the rule, from one test over the whole table
+-- (lawful-of-test, lawful).
+use Prim.Native.Nat.{ℕ, zero, suc, _+_, _-_, _*_, _≤_, _<_}
 use mathlib.Core.Path.{_≡_, refl, sym, ap, _∙_}
-use mathlib.Core.List.{List, [], _∷_}
-use mathlib.Core.Bool.{Bool, true, _&&_, and-eq-true-iff}
-use lib.Dec.{ltb}
+use mathlib.Core.List.{List, [], _∷_, _++_}
+use mathlib.Core.Bool.{Bool, true, false, _&&_, and-eq-true-iff}
+use lib.Dec.{eqb, leb, ltb}
 use lib.ListN.{length, getD, List·getD-append, List·getD-eq-default}
 use lib.Seq.{getD-append-add}
 use native.Mathlib.Nat.{lt-trans}
 use native.Mathlib.Omega.{arith}
-use borrow.Author.Tests.{ltb-true}
+use borrow.Author.Tests.{eqb-true, leb-true, leb-false, le-leb, lt-leb, ltb-true}
 use Rattle.catalogue.specs.declared.Line.{Line}
 use Rattle.catalogue.specs.Catalogue.{signatureLines, headerLines, catalogue, signatureCount, lineCount}
-use Rattle.catalogue.specs.Catalogue.{lineOf, lineAt, isRising, isLawfulType, isLawfulLine, every}
+use Rattle.catalogue.specs.Catalogue.{lineOf, lineAt, lineWidth, flat, lineFrom, lineIn, isRising, isLawfulType, isLawfulLine, every}
 use Rattle.catalogue.specs.Catalogue.{isLawfulCatalogue, LawfulCatalogue}
 
 length-signature : length signatureLines ≡ signatureCount
@@ -31,9 +32,81 @@ pub past : (i : ℕ) → lineCount ≤ i → record { tag = 0; ty = 0; count = 0
 unfolding lineAt
 past i h = ap lineOf (sym (List·getD-eq-default catalogue [] (rw length-catalogue h)))
 
-pub of-table : (i : ℕ) {table : List (List ℕ)} {r : Line} → table ≡ catalogue → r ≡ lineOf (getD table i []) → r ≡ lineAt i
+pub past-table : (table : List ℕ) (i : ℕ) → lineCount ≤ i
+    → record { tag = 0; ty = 0; count = 0; status = 0 } ≡ lineIn table i
+unfolding lineIn
+past-table table i h = rw (le-leb lineCount i h)
+
+pub within-table : (table : List ℕ) (i : ℕ) {r : Line} → i < lineCount → r ≡ lineFrom table (i * lineWidth)
+    → r ≡ lineIn table i
+unfolding lineIn
+within-table table i h e = rw (lt-leb lineCount i h) e
+
+-- every line has four numbers
+unfoldable isWide : List (List ℕ) → Bool
+isWide [] = true
+isWide (numbers ∷ rest) = eqb (length numbers) lineWidth && isWide rest
+
+wide-parts : (numbers : List ℕ) (rest : List (List ℕ)) → isWide (numbers ∷ rest) ≡ true
+    → (length numbers ≡ lineWidth) × (isWide rest ≡ true)
+unfolding isWide
+wide-parts numbers rest w =
+    let k = and-eq-true-iff (eqb (length numbers) lineWidth) (isWide rest) .0 w in
+    (eqb-true (length numbers) lineWidth (k .0), k .1)
+
+flat-step : (numbers : List ℕ) (rest : List (List ℕ)) → flat (numbers ∷ rest) ≡ numbers ++ flat rest
+unfolding flat
+flat-step numbers rest = refl
+
+flat-none : flat [] ≡ []
+unfolding flat
+flat-none = refl
+
+-- a number of the first line, and one of a later line
+module _ (numbers rest : List ℕ) (w : length numbers ≡ lineWidth) where
+  first : (k : ℕ) → k < lineWidth → getD (numbers ++ rest) k 0 ≡ getD numbers k 0
+  first k h = List·getD-append numbers rest 0 k (omega arith)
+
+  later : (n k : ℕ) → n ≡ lineWidth + k → getD (numbers ++ rest) n 0 ≡ getD rest k 0
+  later n k h =
+      let e : n ≡ length numbers + k = omega arith in
+      rw e (getD-append-add numbers rest k 0)
+
+-- line i of the numbers is line i of the list
+flat-at : (rows : List (List ℕ)) → isWide rows ≡ true → (i : ℕ)
+    → lineFrom (flat rows) (i * lineWidth) ≡ lineOf (getD rows i [])
+unfolding lineFrom
+flat-at [] w i = rw flat-none
+flat-at (numbers ∷ rest) w zero =
+    let h = wide-parts numbers rest w .0 in
+    let at = first numbers (flat rest) h in
+    rw (flat-step, at 0 (omega arith), at 1 (omega arith), at 2 (omega arith), at 3 (omega arith))
+flat-at (numbers ∷ rest) w (suc i) =
+    let h = wide-parts numbers rest w in
+    let at = later numbers (flat rest) (h .0) in
+    rw (
+      flat-step,
+      at (suc i * lineWidth) (i * lineWidth) (omega arith),
+      at (suc i * lineWidth + 1) (i * lineWidth + 1) (omega arith),
+      at (suc i * lineWidth + 2) (i * lineWidth + 2) (omega arith),
+      at (suc i * lineWidth + 3) (i * lineWidth + 3) (omega arith),
+    ) (flat-at rest (h .1) i)
+
+catalogue-wide : isWide catalogue ≡ true
+unfolding isWide catalogue signatureLines headerLines
+catalogue-wide = refl
+
+pub line-in : (i : ℕ) → lineIn (flat catalogue) i ≡ lineAt i
 unfolding lineAt
-of-table i h p = p ∙ ap (λ (rows : List (List ℕ)). lineOf (getD rows i [])) h
+line-in i = go (leb lineCount i) refl
+  where
+    go : (b : Bool) → leb lineCount i ≡ b → lineIn (flat catalogue) i ≡ lineAt i
+    go true e = let h = leb-true lineCount i e in sym (past-table (flat catalogue) i h) ∙ past i h
+    go false e =
+        sym (within-table (flat catalogue) i (leb-false lineCount i e) refl) ∙ flat-at catalogue catalogue-wide i
+
+pub in-table : (i : ℕ) {table : List ℕ} {r : Line} → table ≡ flat catalogue → r ≡ lineIn table i → r ≡ lineAt i
+in-table i h p = p ∙ ap (λ (numbers : List ℕ). lineIn numbers i) h ∙ line-in i
 
 -- a line of each part
 signature-at : (i : ℕ) → i < signatureCount → lineAt i ≡ lineOf (getD signatureLines i [])

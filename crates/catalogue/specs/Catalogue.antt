@@ -1,10 +1,10 @@
 -- Document 01, "Catalogue": each line is a tag, its type, its count rule and whether it is required, copied from 000.
 -- Document 01 departs from 000 at the signature's 100 (may be absent) and at the counts of the signature's 1002, 1005,
 -- 1011 and 1012 and of the header's 1047 and 1114 (any). The house lines are its own.
-use Prim.Native.Nat.{ℕ, _≤_, _<_}
+use Prim.Native.Nat.{ℕ, _+_, _*_, _≤_, _<_}
 use mathlib.Core.Path.{_≡_}
 use mathlib.Core.List.{List, [], _∷_, _++_}
-use mathlib.Core.Bool.{Bool, true, _&&_, _||_}
+use mathlib.Core.Bool.{Bool, true, cond, _&&_, _||_}
 use lib.ListN.{getD}
 use lib.Dec.{eqb, leb, ltb}
 use Rattle.catalogue.specs.declared.Line.{Line}
@@ -154,6 +154,29 @@ lineOf numbers =
 -- line i, counted from 0; four zeros past the end
 unfoldable pub lineAt : ℕ → Line
 lineAt i = lineOf (getD catalogue i [])
+
+-- the lines' numbers, one line behind the other
+unfoldable pub flat : List (List ℕ) → List ℕ
+flat [] = []
+flat (numbers ∷ rest) = numbers ++ flat rest
+
+abbrev pub lineWidth : ℕ
+lineWidth = 4
+
+-- the line whose numbers stand in a table from a place on
+unfoldable pub lineFrom : List ℕ → ℕ → Line
+lineFrom table from =
+    record {
+      tag = getD table from 0;
+      ty = getD table (from + 1) 0;
+      count = getD table (from + 2) 0;
+      status = getD table (from + 3) 0;
+    }
+
+-- line i of a table of such numbers; four zeros past the end
+unfoldable pub lineIn : List ℕ → ℕ → Line
+lineIn table i =
+    cond (leb lineCount i) (record { tag = 0; ty = 0; count = 0; status = 0 }) (lineFrom table (i * lineWidth))
 
 -- whether an edition, from 1 on, has a line
 abbrev pub inEdition : ℕ → Line → Bool

@@ -1,6 +1,6 @@
 -- Demand 2: the checks of an edition block by block (rules-lawful, part-lawful), together (checks-lawful), and demand2.
 use Prim.Native.Nat.{ℕ, _-_, _≤_}
-use mathlib.Core.Path.{_≡_, subst}
+use mathlib.Core.Path.{_≡_, sym, subst, _∙_}
 use mathlib.Core.Logic.{_↔_, Iff·rfl, Iff·trans}
 use mathlib.Core.List.{List}
 use mathlib.Core.Bool.{true}
@@ -14,6 +14,8 @@ use Rattle.structure.specs.Structure.{sectionAt}
 use Rattle.package.specs.Package.{alignUp, headerStart, signatureAt, headerAt}
 use Rattle.rules.specs.Rules.{rulesOver, rulesCheck}
 use Rattle.book.specs.Doses.{doses, sumOf}
+use Rattle.book.specs.RowTheorems.{HoldDoses}
+use Rattle.book.proofs.RowTheorems.{known-hold}
 use Rattle.reading.specs.Editions.{Edition, editionOf, batchTag, hasBatch}
 use Rattle.reading.specs.Reading.{editionCheck, bookIn, bookOf, needed, roomCheck, bookPart, openedCheck, checksAt}
 use Rattle.reading.specs.Reading.{readingCheck}
@@ -30,7 +32,7 @@ use Rattle.demands.proofs.NumberLawful.{Keeps, size-there, states-there
 use Rattle.demands.proofs.NumberLawful.{size-lawful, batch-lawful}
 use Rattle.demands.proofs.GroupLawful.{groups-lawful, directories-there}
 use Rattle.demands.proofs.TextLawful.{texts-lawful}
-use Rattle.demands.proofs.BookLawful.{book-lawful}
+use Rattle.demands.proofs.BookLawful.{book-lawful, book-sum}
 
 -- H is where the header starts
 start-first : (place : ℕ) → FirstMultiple 8 place (alignUp place)
@@ -81,13 +83,13 @@ module _ (edition : Edition) (s : List ℕ) where
   H = headerStart (signatureAt s)
 
   -- 19 to 24
-  part-lawful : (room : ℕ) → LawfulStructure s H → LawfulLines edition s (signatureAt s) (headerAt s)
+  part-lawful : HoldDoses (edition .known) → (room : ℕ) → LawfulStructure s H → LawfulLines edition s (signatureAt s) (headerAt s)
       → (bookPart edition s (headerAt s) room (bookOf s) ≡ Pass) ↔ Weighed room H
   unfolding bookPart
-  part-lawful room lawful lines =
+  part-lawful hold room lawful lines =
       let sum = sumOf (doses (bookOf s)) in
       let there = batch-there edition s (signatureAt s) (headerAt s) lines in
-      then-iff _ _ (book-lawful (edition .known) (bookOf s)) λ book.
+      then-iff _ _ (book-lawful (edition .known) hold (bookOf s)) λ book.
       then-iff _ _ (batch-lawful s H lawful edition sum there) λ batch.
       room-lawful room
 
@@ -98,15 +100,15 @@ module _ (edition : Edition) (s : List ℕ) where
       × LawfulStructure s start)
       × (Ruled start × Weighed room start)
 
-  blocks-lawful : Keeps edition → (room : ℕ) → (checksAt edition s room ≡ Pass) ↔ Blocks room H
+  blocks-lawful : Keeps edition → HoldDoses (edition .known) → (room : ℕ) → (checksAt edition s room ≡ Pass) ↔ Blocks room H
   unfolding checksAt openedCheck
-  blocks-lawful keeps room =
+  blocks-lawful keeps hold room =
       then-iff _ _ (sound-lawful s) λ sound.
       then-iff _ _ (rules-lawful H keeps (sound .3 .tags) (sound .4)) λ rules.
-      part-lawful room (sound .4) (rules .0)
+      part-lawful hold room (sound .4) (rules .0)
 
-  blocks-package : (room : ℕ) → Blocks room H → LawfulPackage edition s
-  blocks-package room (sound, (rules, part)) =
+  blocks-package : HoldDoses (edition .known) → (room : ℕ) → Blocks room H → LawfulPackage edition s
+  blocks-package hold room (sound, (rules, part)) =
       record {
         most = sound .0;
         least = sound .1;
@@ -120,26 +122,27 @@ module _ (edition : Edition) (s : List ℕ) where
         groups = rules .1 .1 .0;
         texts = rules .1 .1 .1;
         book = part .0;
-        batch = part .1 .0;
+        batch = λ h i l t. part .1 .0 h i l t ∙ book-sum (edition .known) hold (bookOf s) (part .0);
       }
 
-  package-blocks : (room : ℕ) → needed (bookOf s) ≤ room → (r : LawfulPackage edition s) → Blocks room (r .H)
-  package-blocks room fits r = (
+  package-blocks : HoldDoses (edition .known) → (room : ℕ) → needed (bookOf s) ≤ room → (r : LawfulPackage edition s) → Blocks room (r .H)
+  package-blocks hold room fits r = (
     (r .most, r .least, r .lead, r .signature, r .header),
-    ((r .lines, (r .payload, (r .groups, r .texts))), (r .book, (r .batch, fits))),
+    ((r .lines, (r .payload, (r .groups, r .texts))), (r .book, (λ h i l t. r .batch h i l t ∙ sym (book-sum (edition .known) hold (bookIn s (sectionAt s (r .H))) (r .book)), fits))),
   )
 
-  package-lawful : (room : ℕ) → Blocks room H ↔ (LawfulPackage edition s × (needed (bookOf s) ≤ room))
-  package-lawful room = (
-    λ b. (blocks-package room b, b .1 .1 .1 .1),
+  package-lawful : HoldDoses (edition .known) → (room : ℕ) → Blocks room H ↔ (LawfulPackage edition s × (needed (bookOf s) ≤ room))
+  package-lawful hold room = (
+    λ b. (blocks-package hold room b, b .1 .1 .1 .1),
     λ (r, fits).
-        subst (Blocks room) (start-only (sectionEnd (signatureAt s)) (r .H) (r .place)) (package-blocks room fits r),
+        subst (Blocks room) (start-only (sectionEnd (signatureAt s)) (r .H) (r .place)) (package-blocks hold room fits r),
   )
 
--- of any edition that has edition 1's lines
-pub checks-lawful : (edition : Edition) → Keeps edition → (s : List ℕ) (room : ℕ)
+-- of any edition that has edition 1's lines, and whose weighed kinds hold a dose
+pub checks-lawful : (edition : Edition) → Keeps edition → HoldDoses (edition .known) → (s : List ℕ) (room : ℕ)
     → (checksAt edition s room ≡ Pass) ↔ (LawfulPackage edition s × (needed (bookOf s) ≤ room))
-checks-lawful edition keeps s room = Iff·trans (blocks-lawful edition s keeps room) (package-lawful edition s room)
+checks-lawful edition keeps hold s room =
+    Iff·trans (blocks-lawful edition s keeps hold room) (package-lawful edition s hold room)
 
 -- 1
 edition-passes : (edition : ℕ) → 1 ≤ edition → edition ≤ 2 → editionCheck edition ≡ Pass
@@ -152,7 +155,7 @@ lines-kept edition l line h = le-leb (line .status) edition (let k = leb-true (l
 pub demand2 : Demand2
 unfolding readingCheck
 demand2 form edition s before l m =
-    let checks = checks-lawful (editionOf edition) (lines-kept edition l) s (roomIn form before) in (
+    let checks = checks-lawful (editionOf edition) (lines-kept edition l) (known-hold edition) s (roomIn form before) in (
       λ h. checks .0 (both-iff _ _ .0 (done _ _ h .0) .1),
       λ r. rw (both-iff _ _ .1 (edition-passes edition l m, checks .1 r)),
     )

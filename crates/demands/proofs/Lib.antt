@@ -21,3 +21,4 @@ pub mod TextLawful
 pub mod NumberLawful
 pub mod Demand2
 pub mod BothLaws
+pub mod RowStated

@@ -21,9 +21,8 @@ use Rattle.catalogue.specs.declared.Line.{Line}
 use Rattle.catalogue.specs.Catalogue.{lineAt, signatureCount, lineCount}
 use Rattle.files.specs.Files.{fileTags}
 use Rattle.texts.specs.Texts.{linux, binSh}
-use Rattle.book.specs.Kinds.{isWeighed}
-use Rattle.book.specs.Book.{bookLimit, kindAt, recordEnd, places, doseAt}
-use Rattle.book.specs.Doses.{doses, sumOf}
+use Rattle.book.specs.Book.{bookLimit}
+use Rattle.book.specs.Rows.{BookRecord, IsRow, statedSum, LawfulRow}
 use Rattle.reading.specs.Editions.{Edition, batchTag, hasBatch}
 use Rattle.reading.specs.Reading.{bookIn}
 
@@ -169,20 +168,12 @@ pub record LawfulTexts (s : List ℕ) (header : Section) : Type 0 where
   -- each string of 1118 ends with "/"
   pub directories : WhereTagged s header 1118 (λ (e : IndexRecord). Directories s (inFile header (e .offset)) (e .count))
 
--- "Book": a record at a place
-pub record LawfulBookRecord (known : ℕ → Bool) (b : List ℕ) (at : ℕ) : Type 0 where
-  -- an unknown weighed kind is refused
-  pub kind : isWeighed (kindAt b at) ≡ true → known (kindAt b at) ≡ true
-  -- the body is in the book
-  pub body : recordEnd b at ≤ length b
-  -- oxide is 1 to 999, milligrams 1 to 5,000,000
-  pub oxide : isWeighed (kindAt b at) ≡ true → (1 ≤ doseAt b at .oxide .0) × (doseAt b at .oxide .0 ≤ 999)
-  pub milligrams : isWeighed (kindAt b at) ≡ true
-      → (1 ≤ doseAt b at .milligrams .0) × (doseAt b at .milligrams .0 ≤ 5000000)
-
+-- "Book": at most 4,096 bytes, which are a row of lawful records
 pub record LawfulBook (known : ℕ → Bool) (b : List ℕ) : Type 0 where
   pub size : length b ≤ bookLimit
-  pub records : (i : ℕ) → i < length (places b) → LawfulBookRecord known b (getD (places b) i 0)
+  pub row : List BookRecord
+  pub isRow : IsRow b row
+  pub lawful : LawfulRow known row
 
 -- the first multiple of a number at or after a place
 pub record FirstMultiple (n place start : ℕ) : Type 0 where
@@ -211,5 +202,5 @@ pub record LawfulPackage (edition : Edition) (s : List ℕ) : Type 0 where
   pub groups : LawfulGroups s (sectionAt s leadSize) (sectionAt s H)
   pub texts : LawfulTexts s (sectionAt s H)
   pub book : LawfulBook (edition .known) (bookIn s (sectionAt s H))
-  -- where the edition has the batch weight's line, the doses' sum equals its value
-  pub batch : hasBatch edition ≡ true → NumberIs s (sectionAt s H) batchTag (sumOf (doses (bookIn s (sectionAt s H))))
+  -- where the edition has the batch weight's line, the sum of what the book's records state equals its value
+  pub batch : hasBatch edition ≡ true → NumberIs s (sectionAt s H) batchTag (statedSum (book .row))

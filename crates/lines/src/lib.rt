@@ -1,7 +1,7 @@
 // Checks 14 and 15: the lines of the catalogue.
 ghost use mathlib.Core.Path.{_≡_};
-ghost use Prim.Native.Nat.{ℕ, _-_, _≤_};
-ghost use Rattle.catalogue.specs.Catalogue.{catalogue, lineCount, inEdition, lineAt};
+ghost use Prim.Native.Nat.{ℕ, _-_};
+ghost use Rattle.catalogue.specs.Catalogue.{catalogue, flat, inEdition, lineAt};
 ghost use Rattle.tags.specs.Tables.{shownBy};
 ghost use Rattle.lines.specs.Lines.{lineCheck, lineIf, linesFrom, linesCheck};
 use catalogue::Line;
@@ -47,18 +47,17 @@ fn line_if(edition: u32, tags: &[u32; Table::NUMBERS], line: Line) -> Verdict
 // Checks 14 and 15 for the lines from number `from` up to number `to`, in order.
 fn lines_from(
     edition: u32,
-    table: &[[u32; 4]; Line::ALL],
+    table: &[u32; Line::NUMBERS],
     tags: &[u32; Table::NUMBERS],
     from: usize,
     to: usize,
 ) -> Verdict
-    requires { ⌜ (now table ≡ catalogue) × (to ≤ lineCount) ⌝ }
+    requires { ⌜ now table ≡ flat catalogue ⌝ }
     ensures { λ r. ⌜ r ≡ linesFrom lineAt (inEdition edition) (shownBy (now (tags .entry))) (to - from) from ⌝ }
 {
     let mut i = from;
     while i < to {
-        let numbers = table[i];
-        let v = line_if(edition, tags, Line::of(numbers));
+        let v = line_if(edition, tags, Line::in_table(table, i));
         if let Verdict::Fail(number, place) = v {
             return Verdict::Fail(number, place);
         }

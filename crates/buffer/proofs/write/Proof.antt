@@ -52,9 +52,6 @@ at-requires c κs = search needs
 put-dose-requires : tie.Need-put-dose-requires Inv-loop μ-loop
 put-dose-requires c κs = search needs
 
-cast-i : tie.Need-cast-i Inv-loop μ-loop
-cast-i c = search needs
-
 add-i : tie.Need-add-i Inv-loop μ-loop
 add-i c = search needs
 
@@ -92,7 +89,6 @@ write-spec =
     is-weighed-requires
     at-requires
     put-dose-requires
-    cast-i
     add-i
     loop-less
     loop-again

@@ -1,8 +1,9 @@
+-- The lines that are left decide; each is a line of the table. Assumes nothing.
 use Prim.Native.Nat.{_-_}
 use mathlib.Core.Path.{_≡_}
 use borrow.Author.Needs.{needs}
 use Rattle.catalogue.specs.Catalogue.{inEdition, lineAt}
-use Rattle.catalogue.proofs.CatalogueLaws.{of-table}
+use Rattle.catalogue.proofs.CatalogueLaws.{in-table}
 use Rattle.tags.specs.Tables.{shownBy}
 use Rattle.lines.specs.Lines.{linesFrom}
 use Rattle.lines.proofs.LinesLaws as laws
@@ -19,14 +20,8 @@ abbrev μ-loop : tie.MeasureT-loop
 loop-holds : tie.Need-loop-holds Inv-loop μ-loop
 loop-holds c = search needs
 
-mul-numbers : tie.Need-mul-numbers Inv-loop μ-loop
-mul-numbers c = search needs
-
-element-copy-out-numbers : tie.Need-element-copy-out-numbers Inv-loop μ-loop
-element-copy-out-numbers c = search needs
-
-of-requires : tie.Need-of-requires Inv-loop μ-loop
-of-requires c κs = search needs
+in-table-requires : tie.Need-in-table-requires Inv-loop μ-loop
+in-table-requires c κs = search needs
 
 line-if-requires : tie.Need-line-if-requires Inv-loop μ-loop
 line-if-requires c κs = search needs
@@ -35,7 +30,7 @@ enum-known-v : tie.Need-enum-known-v Inv-loop μ-loop
 enum-known-v c = search needs
 
 returns : tie.Need-returns Inv-loop μ-loop
-returns c = search (laws.ends, of-table)
+returns c = search (laws.ends, in-table)
 
 enum-told : tie.Need-enum-told Inv-loop μ-loop
 enum-told c = search needs
@@ -47,7 +42,7 @@ loop-less : tie.Need-loop-less Inv-loop μ-loop
 loop-less c = search needs
 
 loop-again : tie.Need-loop-again Inv-loop μ-loop
-loop-again c = search (laws.turn, of-table)
+loop-again c = search (laws.turn, in-table)
 
 returns-2 : tie.Need-returns-2 Inv-loop μ-loop
 returns-2 c = search laws.spent
@@ -59,9 +54,7 @@ lines-from-spec =
     Inv-loop
     μ-loop
     loop-holds
-    mul-numbers
-    element-copy-out-numbers
-    of-requires
+    in-table-requires
     line-if-requires
     enum-known-v
     returns
