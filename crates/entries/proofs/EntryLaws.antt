@@ -1,23 +1,25 @@
 -- Laws of one index record's rules, for each way through the functions that test them.
-use Prim.Native.Nat.{ℕ, suc, _+_, _-_, _*_, _≤_, _<_, _^_}
+use Prim.Native.Nat.{ℕ, suc, _+_, _-_, _*_, _%_, _≤_, _<_, _^_}
 use mathlib.Core.Path.{_≡_, refl, sym, ap, _∙_}
 use mathlib.Core.List.{List}
-use mathlib.Core.Bool.{Bool, true, false, _||_}
+use mathlib.Core.Bool.{Bool, true, false, not, _||_}
 use lib.Dec.{eqb, leb}
 use native.Mathlib.Omega.{arith}
 use native.Mathlib.Nat.{mul-le-mul-right}
-use borrow.Author.Tests.{eq-eqb, ne-eqb, le-leb, lt-leb}
+use borrow.Author.Tests.{eq-eqb, ne-eqb, le-leb, lt-leb, not-true, not-false}
 use Rattle.strings.specs.declared.Ending.{Ending}
 use Rattle.strings.specs.declared.Ending.the-variants.{Ends, Open}
 use Rattle.be.specs.Numbers.{be32At}
-use Rattle.strings.specs.Strings.{stringsFrom}
+use Rattle.strings.specs.Strings.{stringsFrom, isEnded}
 use Rattle.format.specs.declared.places.Section.{Section}
 use Rattle.format.specs.declared.records.IndexRecord.{IndexRecord}
 use Rattle.format.specs.Places.{recordPlace, inFile, sectionEnd}
+use Rattle.format.specs.Records.{indexRecordAt}
+use Rattle.format.proofs.RecordLaws.{index-read}
 use Rattle.entries.specs.declared.types.ElementSize.{ElementSize}
 use Rattle.entries.specs.declared.types.ElementSize.the-variants.{Bytes, ToZero, Unlawful}
-use Rattle.entries.specs.Types.{elementSize}
-use Rattle.entries.specs.Entries.{countRight, dataEnd, tagBefore}
+use Rattle.entries.specs.Types.{elementSize, isLawful}
+use Rattle.entries.specs.Entries.{countRight, alignedTo, dataEnd, tagBefore}
 use Rattle.entries.proofs.TypeLaws.{bytes-small}
 
 pub count-six : (e : IndexRecord) → e .ty ≡ 6 → eqb (e .count) 1 ≡ countRight e
@@ -88,3 +90,67 @@ module _ (s : List ℕ) (section : Section) (tag k : ℕ) {v : Bool} (inv : v �
   pub spent : k ≤ 0 → false ≡ v
   unfolding tagBefore
   spent l = let j : k ≡ 0 = omega arith in sym (rw j at inv)
+
+-- the rungs of an entry, by its element size
+module _ (e : IndexRecord) {n : ℕ} (q : Bytes n ≡ elementSize (e .ty)) where
+  pub fixed-lawful : isLawful (elementSize (e .ty)) ≡ true
+  fixed-lawful = rw (← q)
+
+  pub fixed-aligned : e .offset .0 % n ≡ 0 → alignedTo (elementSize (e .ty)) (e .offset .0) ≡ true
+  fixed-aligned h = rw (← q) (eq-eqb (e .offset .0 % n) 0 h)
+
+  pub fixed-astray : (e .offset .0 % n ≡ 0 → ⊥) → alignedTo (elementSize (e .ty)) (e .offset .0) ≡ false
+  fixed-astray h = rw (← q) (ne-eqb (e .offset .0 % n) 0 h)
+
+  pub fixed-some : 1 ≤ n
+  fixed-some = bytes-small (e .ty) n (sym q) .0
+
+  pub fixed-product : e .count < 2 ^ 32 → n * e .count < 2 ^ 34
+  fixed-product k = let m = bytes-small (e .ty) n (sym q) in omega (arith, mul-le-mul-right (e .count) (m .1))
+
+  pub fixed-inside : (s : List ℕ) (section : Section) → e .offset .0 + n * e .count ≤ section .hsize
+      → isEnded (dataEnd s section e) ≡ true
+  fixed-inside s section l = rw (← end-fits s section e refl (sym q) refl l)
+
+  pub fixed-outside : (s : List ℕ) (section : Section) → section .hsize < e .offset .0 + n * e .count
+      → isEnded (dataEnd s section e) ≡ false
+  fixed-outside s section l = rw (← end-past s section e refl (sym q) l)
+
+pub ruleset fixed = (fixed-lawful, fixed-aligned, fixed-astray, fixed-inside, fixed-outside)
+
+module _ (e : IndexRecord) (q : ToZero ≡ elementSize (e .ty)) where
+  pub strings-lawful : isLawful (elementSize (e .ty)) ≡ true
+  strings-lawful = rw (← q)
+
+  pub strings-aligned : alignedTo (elementSize (e .ty)) (e .offset .0) ≡ true
+  strings-aligned = rw (← q)
+
+  module _ (s : List ℕ) (section : Section) {from end : ℕ} {r : Ending} {b : Bool} (f : from ≡ inFile section (e .offset))
+      (g : end ≡ sectionEnd section) (j : r ≡ stringsFrom s (end - from) from (e .count)) (k : b ≡ isEnded r) where
+    strings-told : b ≡ isEnded (dataEnd s section e)
+    strings-told = k ∙ ap isEnded (end-strings s section e refl (sym q) f g j)
+
+    pub strings-inside : not b ≡ false → isEnded (dataEnd s section e) ≡ true
+    strings-inside h = sym strings-told ∙ not-false b h
+
+    pub strings-outside : not b ≡ true → isEnded (dataEnd s section e) ≡ false
+    strings-outside h = sym strings-told ∙ not-true b h
+
+pub ruleset strings = (strings-lawful, strings-aligned, strings-inside, strings-outside)
+
+pub unlawful : (e : IndexRecord) {k : ElementSize} → k ≡ elementSize (e .ty) → k ≡ Unlawful → isLawful (elementSize (e .ty)) ≡ false
+unlawful e q h = rw (← q, h)
+
+-- the size that was found is the type's
+pub sized : (ty : ℕ) {k size : ElementSize} → k ≡ elementSize ty → k ≡ size → size ≡ elementSize ty
+sized ty q h = sym h ∙ q
+
+-- a record, from the numbers that were read or whole
+module _ (s : List ℕ) {at place : ℕ} (h : at ≡ place) where
+  pub record-read : {a b c d : ℕ} → a ≡ be32At s (at + 0) → b ≡ be32At s (at + 4) → c ≡ be32At s (at + 8)
+      → d ≡ be32At s (at + 12)
+      → _≡_ {A = IndexRecord} (record { tag = a; ty = b; offset = record { 0 = c }; count = d }) (indexRecordAt s place)
+  record-read p q r t = index-read s at p q r t ∙ ap (indexRecordAt s) h
+
+  pub record-whole : {e : IndexRecord} → e ≡ indexRecordAt s at → e ≡ indexRecordAt s place
+  record-whole q = q ∙ ap (indexRecordAt s) h

@@ -1,6 +1,6 @@
--- A fixed element size is 1 to 4: bytes-small; a test by cases from the case that was found: by-case.
+-- A fixed element size is 1 to 4: bytes-small.
 use Prim.Native.Nat.{ℕ, _≤_}
-use mathlib.Core.Path.{_≡_, sym, ap, _∙_}
+use mathlib.Core.Path.{_≡_}
 use mathlib.Core.Bool.{Bool, true, false, cond, _||_}
 use lib.Dec.{eqb}
 use native.Mathlib.Omega.{arith}
@@ -20,6 +20,3 @@ pub bytes-small : (ty n : ℕ) → elementSize ty ≡ Bytes n → (1 ≤ n) × (
 unfolding elementSize
 bytes-small ty n h =
     small (eqb ty 1 || eqb ty 2 || eqb ty 7) (eqb ty 3) (eqb ty 4) (eqb ty 6 || eqb ty 8 || eqb ty 9) n h
-
-pub by-case : (f : ElementSize → Bool) {k z : ElementSize} (ty : ℕ) → k ≡ elementSize ty → k ≡ z → f z ≡ f (elementSize ty)
-by-case f ty e h = ap f (sym h ∙ e)

@@ -1,33 +1,25 @@
 // One index record: its type, and checks 9 to 13.
 ghost use mathlib.Core.Path.{_≡_};
-ghost use Prim.Native.Nat.{_<_};
+ghost use Prim.Native.Nat.{_+_, _≤_};
+ghost use lib.ListN.{length};
 ghost use Rattle.be.specs.Numbers.{be32At};
 ghost use Rattle.format.specs.Places.{recordPlace};
-ghost use Rattle.entries.specs.Entries.{typeLawful, countRight, isAligned, dataEnd, tagBefore, entryCheck};
+ghost use Rattle.entries.specs.declared.types.ElementSize.the-variants.{Bytes, ToZero};
+ghost use Rattle.entries.specs.Types.{elementSize};
+ghost use Rattle.entries.specs.Entries.{countRight, dataEnd, tagBefore, recordAt, entryCheck};
 
 pub mod types;
 
-pub use types::ElementSize;
-use types::element_size;
-use strings::Ending;
 use format::IndexRecord;
 use format::Section;
+use format::StoreOffset;
 use format::Verdict;
-
-// Check 9.
-pub fn type_lawful(e: IndexRecord) -> bool
-    ensures { λ r. ⌜ r ≡ typeLawful e ⌝ }
-{
-    let size = element_size(e.ty);
-    match size {
-        ElementSize::Bytes(_) => true,
-        ElementSize::ToZero => true,
-        ElementSize::Unlawful => false,
-    }
-}
+use strings::Ending;
+pub use types::ElementSize;
+use types::element_size;
 
 // Check 10.
-pub fn count_right(e: IndexRecord) -> bool
+fn count_right(e: IndexRecord) -> bool
     ensures { λ r. ⌜ r ≡ countRight e ⌝ }
 {
     if e.ty == 6 {
@@ -37,18 +29,6 @@ pub fn count_right(e: IndexRecord) -> bool
         return e.count == 1;
     }
     1 <= e.count
-}
-
-// Check 11.
-pub fn aligned(e: IndexRecord) -> bool
-    ensures { λ r. ⌜ r ≡ isAligned e ⌝ }
-{
-    let size = element_size(e.ty);
-    match size {
-        ElementSize::Bytes(n) => e.offset.0 as usize % n == 0,
-        ElementSize::ToZero => true,
-        ElementSize::Unlawful => true,
-    }
 }
 
 // The place in the file behind an entry's data, where that is inside the store (check 12).
@@ -74,22 +54,51 @@ pub fn data_end(s: &[u8], section: Section, e: IndexRecord) -> Ending
     }
 }
 
-// The tag of record `i`, one of the first `n`.
+// The number at a place of a slice that has it whole.
+fn be32_within(s: &[u8], at: usize) -> u32
+    requires { ⌜ at + 4 ≤ length (now s) ⌝ }
+    ensures { λ r. ⌜ r ≡ be32At (now (s .entry)) at ⌝ }
+{
+    be::join32(s[at], s[at + 1], s[at + 2], s[at + 3])
+}
+
+// The tag of record `i`. For one of the first `n`, where the slice has those whole, it is read at once.
 pub fn tag_at(s: &[u8], section: Section, n: u32, i: u32) -> u32
-    requires { ⌜ i < n ⌝ }
     ensures { λ r. ⌜ r ≡ be32At (now (s .entry)) (recordPlace section i) ⌝ }
 {
     let end = section.index_record(n);
     let place = section.index_record(i);
     let at = place.0;
     if end.0 <= s.len() {
-        return be::join32(s[at], s[at + 1], s[at + 2], s[at + 3]);
+        if i < n {
+            return be32_within(s, at);
+        }
     }
     be::be32(s, at)
 }
 
+// Record `i`, read likewise.
+pub fn record_at(s: &[u8], section: Section, n: u32, i: u32) -> IndexRecord
+    ensures { λ r. ⌜ r ≡ recordAt (now (s .entry)) section i ⌝ }
+{
+    let end = section.index_record(n);
+    let place = section.index_record(i);
+    let at = place.0;
+    if end.0 <= s.len() {
+        if i < n {
+            return IndexRecord {
+                tag: be32_within(s, at + IndexRecord::TAG),
+                ty: be32_within(s, at + IndexRecord::TYPE),
+                offset: StoreOffset(be32_within(s, at + IndexRecord::OFFSET)),
+                count: be32_within(s, at + IndexRecord::COUNT),
+            };
+        }
+    }
+    IndexRecord::at(s, place)
+}
+
 // Whether one of the first `i` records has the tag (check 13).
-pub fn tag_before(s: &[u8], section: Section, i: u32, tag: u32) -> bool
+fn tag_before(s: &[u8], section: Section, i: u32, tag: u32) -> bool
     ensures { λ r. ⌜ r ≡ tagBefore (now (s .entry)) section i tag ⌝ }
 {
     let mut k = i;
@@ -102,26 +111,40 @@ pub fn tag_before(s: &[u8], section: Section, i: u32, tag: u32) -> bool
     false
 }
 
-// Checks 9 to 13 for record `i`, which is `e` and starts at `place`, with where its data ends.
-pub fn entry_check(
-    s: &[u8],
-    section: Section,
-    i: u32,
-    place: u32,
-    e: IndexRecord,
-    end: Ending,
-) -> Verdict
-    ensures { λ r. ⌜ r ≡ entryCheck (now (s .entry)) section i place e end ⌝ }
+// Checks 10 to 13 for record `i`, which is `e` and starts at `place`, of elements of `n` bytes each.
+fn fixed_check(s: &[u8], section: Section, i: u32, place: u32, e: IndexRecord, n: usize) -> Verdict
+    requires { ⌜ Bytes n ≡ elementSize (e .ty) ⌝ }
+    ensures { λ r. ⌜ r ≡ entryCheck (now (s .entry)) section i place e (dataEnd (now (s .entry)) section e) ⌝ }
 {
-    if !type_lawful(e) {
-        return Verdict::Fail(9, place);
-    }
     if !count_right(e) {
         return Verdict::Fail(10, place);
     }
-    if !aligned(e) {
+    let offset = e.offset.0 as usize;
+    if offset % n != 0 {
         return Verdict::Fail(11, place);
     }
+    let bytes = n * e.count as usize;
+    let end = offset + bytes;
+    if (section.hsize as usize) < end {
+        return Verdict::Fail(12, place);
+    }
+    if tag_before(s, section, i, e.tag) {
+        return Verdict::Fail(13, place);
+    }
+    Verdict::Pass
+}
+
+// The same for an entry of strings.
+fn strings_check(s: &[u8], section: Section, i: u32, place: u32, e: IndexRecord) -> Verdict
+    requires { ⌜ ToZero ≡ elementSize (e .ty) ⌝ }
+    ensures { λ r. ⌜ r ≡ entryCheck (now (s .entry)) section i place e (dataEnd (now (s .entry)) section e) ⌝ }
+{
+    if !count_right(e) {
+        return Verdict::Fail(10, place);
+    }
+    let from = e.offset.in_file(section);
+    let to = section.end();
+    let end = strings::strings_end(s, from.0, to.0, e.count);
     if !strings::ended(end) {
         return Verdict::Fail(12, place);
     }
@@ -129,4 +152,16 @@ pub fn entry_check(
         return Verdict::Fail(13, place);
     }
     Verdict::Pass
+}
+
+// Checks 9 to 13 for record `i`, which is `e` and starts at `place`.
+pub fn entry_check(s: &[u8], section: Section, i: u32, place: u32, e: IndexRecord) -> Verdict
+    ensures { λ r. ⌜ r ≡ entryCheck (now (s .entry)) section i place e (dataEnd (now (s .entry)) section e) ⌝ }
+{
+    let size = element_size(e.ty);
+    match size {
+        ElementSize::Bytes(n) => fixed_check(s, section, i, place, e, n),
+        ElementSize::ToZero => strings_check(s, section, i, place, e),
+        ElementSize::Unlawful => Verdict::Fail(9, place),
+    }
 }

@@ -1,4 +1,4 @@
--- Laws of `findFrom`, one for each way through a turn of the search, and of what it notes.
+-- Laws of `findFrom` and `taggedFrom`, one for each way through a turn of the search.
 use Prim.Native.Nat.{ℕ, suc, _+_, _-_, _≤_, _<_}
 use mathlib.Core.Path.{_≡_, refl, sym, ap, _∙_}
 use mathlib.Core.List.{List}
@@ -13,14 +13,13 @@ use Rattle.format.specs.declared.places.FileOffset.{FileOffset}
 use Rattle.format.specs.declared.places.Section.{Section}
 use Rattle.format.specs.declared.records.IndexRecord.{IndexRecord}
 use Rattle.format.specs.Places.{recordPlace, inFile}
-use Rattle.format.specs.Records.{indexRecordAt}
 use Rattle.index.specs.declared.Entry.{Entry}
 use Rattle.index.specs.declared.Found.{Found}
 use Rattle.index.specs.declared.Found.the-variants.{At, Nothing}
 use Rattle.index.specs.declared.Tagged.{Tagged}
 use Rattle.index.specs.declared.Tagged.the-variants.{Present, Absent}
 use Rattle.entries.specs.Entries.{recordAt, dataEnd}
-use Rattle.index.specs.Lookup.{extentTo, entryOf, entryAt, isFor, findFrom, orElse, noted, taggedFrom, taggedIn, entryFor}
+use Rattle.index.specs.Lookup.{extentTo, entryOf, entryAt, isFor, findFrom, taggedFrom, taggedIn, entryFor}
 
 pub extent-ends : (from : ℕ) {end : Ending} {to : ℕ} → end ≡ Ends to → from ≤ to → to - from ≡ extentTo from end
 extent-ends from h l = rw h
@@ -31,32 +30,10 @@ extent-none from {to = to} h l = rw h (omega arith)
 pub extent-open : (from : ℕ) {end : Ending} → end ≡ Open → 0 ≡ extentTo from end
 extent-open from h = rw h
 
-pub for-tag : (tag ty : ℕ) (e : IndexRecord) → e .tag ≡ tag → eqb (e .ty) ty ≡ isFor tag ty e
-for-tag tag ty e h = rw (eq-eqb (e .tag) tag h)
-
-pub for-other : (tag ty : ℕ) (e : IndexRecord) → (e .tag ≡ tag → ⊥) → false ≡ isFor tag ty e
-for-other tag ty e h = rw (ne-eqb (e .tag) tag h)
-
 pub entry-made : (section : Section) (e : IndexRecord) (end : Ending) {at : FileOffset} {n : ℕ} → at .0 ≡ inFile section (e .offset)
     → n ≡ extentTo (at .0) end
     → _≡_ {A = Entry} (record { ty = e .ty; count = e .count; at = at; extent = n }) (entryOf section e end)
 entry-made section e end p q = rw (q, p)
-
--- what is noted of one index record
-module _ (tag ty : ℕ) (section : Section) (e : IndexRecord) (end : Ending) {f : Found} where
-  pub noted-kept : {entry : Entry} → f ≡ At entry → At entry ≡ noted f tag ty section e end
-  noted-kept h = rw h
-
-  pub noted-new : {b : Bool} {entry : Entry} → f ≡ Nothing → b ≡ isFor tag ty e → b ≡ true → entry ≡ entryOf section e end
-      → At entry ≡ noted f tag ty section e end
-  noted-new h p q r = rw (h, sym p ∙ q, r)
-
-  pub noted-none : {b : Bool} → f ≡ Nothing → b ≡ isFor tag ty e → b ≡ false → Nothing ≡ noted f tag ty section e end
-  noted-none h p q = rw (h, sym p ∙ q)
-
-pub or-else-none : (f : Found) → orElse f Nothing ≡ f
-or-else-none (At entry) = refl
-or-else-none Nothing = refl
 
 module _ (s : List ℕ) (section : Section) (tag ty : ℕ) where
   pub none : (n i : ℕ) → n ≡ 0 → Nothing ≡ findFrom s section n i tag ty
@@ -74,32 +51,27 @@ module _ (s : List ℕ) (section : Section) (tag ty : ℕ) where
       let k : n - i ≡ suc (n - (i + 1)) = omega arith in
       rw k (step (n - (i + 1)) i)
 
-  choose : (f later : Found) (b : Bool) (entry : Entry)
-      → orElse f (cond b (At entry) later) ≡ orElse (orElse f (cond b (At entry) Nothing)) later
-  choose (At x) later b entry = refl
-  choose Nothing later true entry = refl
-  choose Nothing later false entry = refl
-
-  -- one more record noted
-  pub note-step : (n i : ℕ) (f : Found) → i < n
-      → orElse f (findFrom s section (n - i) i tag ty)
-      ≡ orElse (noted f tag ty section (recordAt s section i) (dataEnd s section (recordAt s section i)))
-      (findFrom s section (n - (i + 1)) (i + 1) tag ty)
-  note-step n i f l = ap (orElse f) (unrolled n i l) ∙ choose f _ (isFor tag ty (recordAt s section i)) _
-
--- the same, in the shape of what is known in a turn: v is what the search began with, e the record that was read
+-- the same, in the shape of what is known in a turn: v is what the search began with, r the tag and e the record that were read
 module _ (s : List ℕ) (section : Section) (tag ty n i : ℕ) {v : Found} (inv : v ≡ findFrom s section (n - i) i tag ty)
-    {place : ℕ} (p : place ≡ recordPlace section i) {e : IndexRecord} (q : e ≡ indexRecordAt s place) where
-  here : e ≡ recordAt s section i
-  here = q ∙ ap (indexRecordAt s) p
+    (l : i < n) {r : ℕ} (p : r ≡ be32At s (recordPlace section i)) where
+  not-for : isFor tag ty (recordAt s section i) ≡ false → v ≡ findFrom s section (n - (i + 1)) (i + 1) tag ty
+  not-for h = inv ∙ unrolled s section tag ty n i l ∙ rw h
 
-  pub turn : {b : Bool} → b ≡ isFor tag ty e → b ≡ false → i < n → v ≡ findFrom s section (n - (i + 1)) (i + 1) tag ty
-  turn h k l = inv ∙ unrolled s section tag ty n i l ∙ rw (sym (ap (isFor tag ty) here) ∙ sym h ∙ k)
+  pub other-tag : (r ≡ tag → ⊥) → v ≡ findFrom s section (n - (i + 1)) (i + 1) tag ty
+  other-tag h = not-for (rw (ne-eqb (be32At s (recordPlace section i)) tag (λ q. h (p ∙ q))))
 
-  pub ends : {b : Bool} {end : Ending} {entry : Entry} → b ≡ isFor tag ty e → b ≡ true → i < n → end ≡ dataEnd s section e
-      → entry ≡ entryOf section e end → At entry ≡ v
-  ends h k l g r =
-      ap At (rw (g, here) at r) ∙ sym (inv ∙ unrolled s section tag ty n i l ∙ rw (sym (ap (isFor tag ty) here) ∙ sym h ∙ k))
+  module _ (h : r ≡ tag) {e : IndexRecord} (q : e ≡ recordAt s section i) where
+    same-type : (b : Bool) → eqb (e .ty) ty ≡ b → isFor tag ty (recordAt s section i) ≡ b
+    same-type b k = rw (eq-eqb (be32At s (recordPlace section i)) tag (sym p ∙ h)) (rw q at k)
+
+    pub other-type : (e .ty ≡ ty → ⊥) → v ≡ findFrom s section (n - (i + 1)) (i + 1) tag ty
+    other-type k = not-for (same-type false (ne-eqb (e .ty) ty k))
+
+    pub ends : {end : Ending} {entry : Entry} → e .ty ≡ ty → end ≡ dataEnd s section e → entry ≡ entryOf section e end
+        → At entry ≡ v
+    ends k g j =
+        ap At (rw (g, q) at j)
+        ∙ sym (inv ∙ unrolled s section tag ty n i l ∙ rw (same-type true (eq-eqb (e .ty) ty k)))
 
 pub spent : (s : List ℕ) (section : Section) (tag ty n i : ℕ) {v : Found} → v ≡ findFrom s section (n - i) i tag ty → n ≤ i
     → Nothing ≡ v
@@ -123,10 +95,10 @@ module _ (s : List ℕ) (section : Section) (tag : ℕ) where
         → v ≡ taggedFrom s section (n - (i + 1)) (i + 1) tag
     tagged-turn q h l = inv ∙ tagged-unrolled n i l ∙ rw (ne-eqb (be32At s (recordPlace section i)) tag (λ e. h (q ∙ e)))
 
-    pub tagged-ends : {place r : ℕ} {e : IndexRecord} → r ≡ be32At s (recordPlace section i) → r ≡ tag → i < n
-        → place ≡ recordPlace section i → e ≡ indexRecordAt s place → Present e ≡ v
-    tagged-ends q h l p g =
-        ap Present (g ∙ ap (indexRecordAt s) p)
+    pub tagged-ends : {r : ℕ} {e : IndexRecord} → r ≡ be32At s (recordPlace section i) → r ≡ tag → i < n
+        → e ≡ recordAt s section i → Present e ≡ v
+    tagged-ends q h l g =
+        ap Present g
         ∙ sym (inv ∙ tagged-unrolled n i l ∙ rw (eq-eqb (be32At s (recordPlace section i)) tag (sym q ∙ h)))
 
     pub tagged-spent : n ≤ i → Absent ≡ v

@@ -1,8 +1,9 @@
 -- Document 01, "Numbers the station shows", on look-ups: the entry with a tag and a type.
 use Prim.Native.Nat.{ℕ, zero, suc, _+_, _-_}
-use mathlib.Core.List.{List}
+use mathlib.Core.List.{List, []}
 use mathlib.Core.Bool.{Bool, cond, _&&_}
 use lib.Dec.{eqb}
+use lib.ListN.{take, drop}
 use Rattle.strings.specs.declared.Ending.{Ending}
 use Rattle.strings.specs.declared.Ending.the-variants.{Ends, Open}
 use Rattle.format.specs.declared.places.Section.{Section}
@@ -46,6 +47,11 @@ findFrom s section (suc n) i tag ty =
 abbrev pub findIn : List ℕ → Section → ℕ → ℕ → Found
 findIn s section tag ty = findFrom s section (section .nindex) 0 tag ty
 
+-- the bytes of an entry that was found; none where nothing was
+abbrev pub foundBytes : List ℕ → Found → List ℕ
+foundBytes s (At entry) = take (entry .extent) (drop (entry .at .0) s)
+foundBytes s Nothing = []
+
 -- the first of n index records from number i on that has the tag
 unfoldable pub taggedFrom : List ℕ → Section → ℕ → ℕ → ℕ → Tagged
 taggedFrom s section zero i tag = Absent
@@ -59,12 +65,3 @@ taggedIn s section tag = taggedFrom s section (section .nindex) 0 tag
 abbrev pub entryFor : List ℕ → Section → Tagged → Found
 entryFor s section (Present e) = At (entryOf section e (dataEnd s section e))
 entryFor s section Absent = Nothing
-
--- the first that was found
-abbrev pub orElse : Found → Found → Found
-orElse (At entry) later = At entry
-orElse Nothing later = later
-
--- what is found once an index record has been seen
-abbrev pub noted : Found → ℕ → ℕ → Section → IndexRecord → Ending → Found
-noted found tag ty section e end = orElse found (cond (isFor tag ty e) (At (entryOf section e end)) Nothing)

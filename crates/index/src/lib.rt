@@ -1,12 +1,13 @@
 // The entry with a tag and a type.
 ghost use mathlib.Core.Path.{_≡_};
-ghost use Rattle.index.specs.Lookup.{extentTo, entryOf, isFor, findIn, noted, taggedIn, entryFor};
+ghost use Rattle.index.specs.Lookup.{extentTo, entryOf, findIn, taggedIn, entryFor};
 use entries::data_end;
+use entries::record_at;
 use entries::tag_at;
-use strings::Ending;
 use format::FileOffset;
 use format::IndexRecord;
 use format::Section;
+use strings::Ending;
 
 // An entry: its type and count, where its data starts in the file, and how many bytes it has.
 pub struct Entry {
@@ -52,53 +53,22 @@ pub fn entry_of(section: Section, e: IndexRecord, end: Ending) -> Entry
     }
 }
 
-// Whether an index record has the tag and the type.
-pub fn is_for(tag: u32, ty: u32, e: IndexRecord) -> bool
-    ensures { λ r. ⌜ r ≡ isFor tag ty e ⌝ }
-{
-    if e.tag != tag {
-        return false;
-    }
-    e.ty == ty
-}
-
-// What is found once an index record has been seen: the first with the tag and the type stays.
-pub fn note(
-    found: Found,
-    tag: u32,
-    ty: u32,
-    section: Section,
-    e: IndexRecord,
-    end: Ending,
-) -> Found
-    ensures { λ r. ⌜ r ≡ noted found tag ty section e end ⌝ }
-{
-    match found {
-        Found::At(entry) => Found::At(entry),
-        Found::Nothing => {
-            if is_for(tag, ty, e) {
-                Found::At(entry_of(section, e, end))
-            } else {
-                Found::Nothing
-            }
-        }
-    }
-}
-
 // The first entry of a structure that has the tag and the type.
 pub fn find(s: &[u8], section: Section, tag: u32, ty: u32) -> Found
     ensures { λ r. ⌜ r ≡ findIn (now (s .entry)) section tag ty ⌝ }
 {
     let n = section.nindex;
-    let mut i = 0;
-    while i < n {
-        let place = section.index_record(i);
-        let e = IndexRecord::at(s, place);
-        if is_for(tag, ty, e) {
-            let end = data_end(s, section, e);
-            return Found::At(entry_of(section, e, end));
+    let mut next = 0;
+    while next < n {
+        let i = next;
+        next += 1;
+        if tag_at(s, section, n, i) == tag {
+            let e = record_at(s, section, n, i);
+            if e.ty == ty {
+                let end = data_end(s, section, e);
+                return Found::At(entry_of(section, e, end));
+            }
         }
-        i += 1;
     }
     Found::Nothing
 }
@@ -111,8 +81,7 @@ pub fn find_tag(s: &[u8], section: Section, tag: u32) -> Tagged
     let mut i = 0;
     while i < n {
         if tag_at(s, section, n, i) == tag {
-            let place = section.index_record(i);
-            return Tagged::Present(IndexRecord::at(s, place));
+            return Tagged::Present(record_at(s, section, n, i));
         }
         i += 1;
     }

@@ -1,4 +1,5 @@
--- Look-ups: what they come to, by what was searched; what they find is sound.
+-- Look-ups: what they come to, by what was opened; what they show is what is found in the structure (found-shown,
+-- header-shown), and sound.
 use Prim.Native.Nat.{ℕ, _≤_, _<_}
 use mathlib.Core.Path.{_≡_, refl, sym, _∙_}
 use mathlib.Core.List.{List, []}
@@ -13,36 +14,57 @@ use Rattle.format.specs.declared.verdict.Answer.the-variants as answer
 use Rattle.index.specs.declared.Entry.{Entry}
 use Rattle.index.specs.declared.Found.{Found}
 use Rattle.index.specs.declared.Found.the-variants.{At, Nothing}
-use Rattle.index.specs.Lookup.{findIn}
+use Rattle.index.specs.Lookup.{findIn, foundBytes}
 use Rattle.structure.specs.Sound.{SoundEntry}
 use Rattle.structure.proofs.SoundLaws.{found-sound, sound-longer}
-use Rattle.package.specs.declared.Searched.{Searched}
-use Rattle.package.specs.declared.Searched.the-variants as searched′
+use Rattle.package.specs.declared.Opened.{Opened}
+use Rattle.package.specs.declared.Opened.the-variants.{Sound, Unsound}
 use Rattle.lookups.specs.declared.Sought.{Sought}
 use Rattle.lookups.specs.declared.Sought.the-variants.{Here, Refused}
-use Rattle.package.specs.Package.{signatureAt, headerAt, structureOf, soundCheck, searched}
-use Rattle.lookups.specs.Lookup.{soughtAs, sought, soughtBytes, soughtAnswer}
-use Rattle.package.proofs.OpenLaws.{within, refused, sound-size, sound-signature, sound-header}
+use Rattle.package.specs.Package.{signatureAt, headerAt, sectionFor, structureOf, soundCheck, opened}
+use Rattle.lookups.specs.Lookup.{soughtAs, sought, soughtBytes, soughtAnswer, findBytes}
+use Rattle.package.proofs.OpenLaws.{opened-sound, opened-unsound, sound-size, sound-signature, sound-header}
 
--- in the shape of what is known where a look-up returns: r is what was searched
-module _ (s : List ℕ) (which tag ty : ℕ) {r : Searched} (p : r ≡ searched s which tag ty) where
-  pub seek-refused : {number place : ℕ} → r ≡ searched′.Refused number place → Refused number place ≡ sought s which tag ty
+-- in the shape of what is known where a look-up returns: r is the package as it was opened
+module _ (s : List ℕ) (which tag ty : ℕ) {r : Opened} (p : r ≡ opened s) where
+  pub seek-refused : {number place : ℕ} → r ≡ Unsound number place → Refused number place ≡ sought s which tag ty
   unfolding sought
-  seek-refused h =
-      rw (refused (soundCheck s) (signatureAt s) (headerAt s) (findIn s (structureOf s which) tag ty) (sym p ∙ h))
+  seek-refused h = rw (opened-unsound s (sym p ∙ h))
 
-  module _ {signature header : Section} {found : Found} (h : r ≡ searched′.Within signature header found) where
-    all-sound : (soundCheck s ≡ Pass) × (signatureAt s ≡ signature) × (headerAt s ≡ header)
-        × (findIn s (structureOf s which) tag ty ≡ found)
-    all-sound = within (soundCheck s) (signatureAt s) (headerAt s) (findIn s (structureOf s which) tag ty) (sym p ∙ h)
+  module _ {signature header : Section} (h : r ≡ Sound signature header) {section : Section}
+      (g : section ≡ sectionFor which signature header) {found : Found} (q : found ≡ findIn s section tag ty) where
+    here : section ≡ structureOf s which
+    here = let k = opened-sound s (sym p ∙ h) in rw (k .1, k .2) g
 
     pub seek-here : {entry : Entry} → found ≡ At entry → Here entry ≡ sought s which tag ty
     unfolding sought
-    seek-here k = rw (all-sound .0, all-sound .3 ∙ k)
+    seek-here k = rw (opened-sound s (sym p ∙ h) .0, ← here, sym q ∙ k)
 
     pub seek-nothing : found ≡ Nothing → Refused 25 0 ≡ sought s which tag ty
     unfolding sought
-    seek-nothing k = rw (all-sound .0, all-sound .3 ∙ k)
+    seek-nothing k = rw (opened-sound s (sym p ∙ h) .0, ← here, sym q ∙ k)
+
+-- what is found in a structure, as bytes
+module _ (s : List ℕ) {f found : Found} (p : found ≡ f) where
+  pub bytes-found : {entry : Entry} {l : List ℕ} → found ≡ At entry → l ≡ foundBytes s (At entry) → l ≡ foundBytes s f
+  bytes-found h k = rw (sym p ∙ h) k
+
+  pub bytes-none : found ≡ Nothing → [] ≡ foundBytes s f
+  bytes-none h = rw (sym p ∙ h)
+
+as-bytes : (s : List ℕ) (f : Found) → foundBytes s f ≡ soughtBytes s (soughtAs Pass f)
+as-bytes s (At entry) = refl
+as-bytes s Nothing = refl
+
+-- where checks 2 to 13 pass, a look-up shows what is found in the structure
+pub found-shown : (s : List ℕ) (which tag ty : ℕ) → soundCheck s ≡ Pass
+    → foundBytes s (findIn s (structureOf s which) tag ty) ≡ findBytes s which tag ty
+unfolding sought
+found-shown s which tag ty h = rw h (as-bytes s (findIn s (structureOf s which) tag ty))
+
+pub header-shown : (s : List ℕ) (tag ty : ℕ) → soundCheck s ≡ Pass
+    → foundBytes s (findIn s (headerAt s) tag ty) ≡ findBytes s 1 tag ty
+header-shown s tag ty h = found-shown s 1 tag ty h
 
 pub bytes-refused : (s : List ℕ) {found : Sought} {number place : ℕ} → found ≡ Refused number place → [] ≡ soughtBytes s found
 bytes-refused s h = rw h

@@ -139,4 +139,3 @@ abbrev pub ElementsShown : Type 0
 ElementsShown =
     (s : List ℕ) (which tag ty k : ℕ) → soundCheck s ≡ Pass → RecordFor s (structureOf s which) tag ty k
     → elementsShown s which tag ty (recordAt s (structureOf s which) k .count) 0 ≡ findBytes s which tag ty
-

@@ -3,15 +3,18 @@ ghost use mathlib.Core.Path.{_≡_};
 ghost use Prim.Native.Nat.{ℕ, _+_, _≤_, _<_};
 ghost use lib.ListN.{length};
 ghost use Rattle.index.specs.declared.Entry.{Entry};
+ghost use Rattle.index.specs.Lookup.{findIn, foundBytes};
 ghost use Rattle.lookups.specs.Lookup.{sought, soughtElement, stringPart, soughtBytes, soughtAnswer, elementOf, findBytes, findAnswer, findElementBytes, findElementAnswer};
-use package::Searched;
-use package::search;
-use strings::Ending;
+use entries::ElementSize;
 use format::Answer;
 use format::FileOffset;
-use entries::ElementSize;
+use format::Section;
 use index::Entry;
 use index::Found;
+use package::Opened;
+use package::open;
+use package::section_for;
+use strings::Ending;
 
 // What a look-up comes to: an entry, or the first check that failed and its place.
 pub enum Sought {
@@ -23,13 +26,17 @@ pub enum Sought {
 pub fn seek(pkg: &[u8], which: u32, tag: u32, ty: u32) -> Sought
     ensures { λ r. ⌜ r ≡ sought (now (pkg .entry)) which tag ty ⌝ }
 {
-    let found = search(pkg, which, tag, ty);
-    match found {
-        Searched::Refused(number, place) => Sought::Refused(number, place),
-        Searched::Within(_, _, f) => match f {
-            Found::At(entry) => Sought::Here(entry),
-            Found::Nothing => Sought::Refused(25, 0),
-        },
+    let opened = open(pkg);
+    match opened {
+        Opened::Unsound(number, place) => Sought::Refused(number, place),
+        Opened::Sound(signature, header) => {
+            let section = section_for(which, signature, header);
+            let found = index::find(pkg, section, tag, ty);
+            match found {
+                Found::At(entry) => Sought::Here(entry),
+                Found::Nothing => Sought::Refused(25, 0),
+            }
+        }
     }
 }
 
@@ -40,6 +47,17 @@ pub fn shown(pkg: &[u8], found: Sought) -> &[u8]
     match found {
         Sought::Here(entry) => be::part(pkg, entry.at.0, entry.extent),
         Sought::Refused(_, _) => &pkg[..0],
+    }
+}
+
+// The data of the first entry of an opened structure with the tag and the type; an empty part where there is none.
+pub fn find_in(pkg: &[u8], section: Section, tag: u32, ty: u32) -> &[u8]
+    ensures { λ r. ⌜ now r ≡ foundBytes (now (pkg .entry)) (findIn (now (pkg .entry)) section tag ty) ⌝ }
+{
+    let found = index::find(pkg, section, tag, ty);
+    match found {
+        Found::At(entry) => be::part(pkg, entry.at.0, entry.extent),
+        Found::Nothing => &pkg[..0],
     }
 }
 

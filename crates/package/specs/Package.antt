@@ -11,13 +11,9 @@ use Rattle.format.specs.Sizes.{packageLimit, leadSize}
 use Rattle.format.specs.Places.{sectionEnd}
 use Rattle.format.specs.Lead.{leadOf}
 use Rattle.format.specs.Verdicts.{check, both}
-use Rattle.index.specs.declared.Found.{Found}
 use Rattle.structure.specs.Structure.{sectionAt, structureCheck}
-use Rattle.index.specs.Lookup.{findIn}
 use Rattle.package.specs.declared.Opened.{Opened}
 use Rattle.package.specs.declared.Opened.the-variants.{Sound, Unsound}
-use Rattle.package.specs.declared.Searched.{Searched}
-use Rattle.package.specs.declared.Searched.the-variants.{Within, Refused}
 use Rattle.package.specs.Lead.{leadCheck}
 
 -- 2 | package over 65,536 bytes | 0
@@ -66,18 +62,17 @@ abbrev pub openedAs : Verdict → Section → Section → Opened
 openedAs Pass signature header = Sound signature header
 openedAs (Fail number place) signature header = Unsound number place
 
+abbrev pub structuresOpened : List ℕ → ℕ → Opened
+structuresOpened s len = openedAs (structuresCheck s len) (signatureAt s) (headerAt s)
+
 unfoldable pub opened : List ℕ → Opened
 opened s = openedAs (soundCheck s) (signatureAt s) (headerAt s)
 
--- the same, with what was looked for in one of them
-abbrev pub searchedAs : Verdict → Section → Section → Found → Searched
-searchedAs Pass signature header found = Within signature header found
-searchedAs (Fail number place) signature header found = Refused number place
+-- the paper's number and place: 0 and 0 where all checks passed
+abbrev pub openedNumber : Opened → ℕ
+openedNumber (Sound signature header) = 0
+openedNumber (Unsound number place) = number
 
-abbrev pub structuresSearched : List ℕ → ℕ → ℕ → ℕ → ℕ → Searched
-structuresSearched s len which tag ty =
-    searchedAs (structuresCheck s len) (signatureAt s) (headerAt s) (findIn s (structureOf s which) tag ty)
-
-abbrev pub searched : List ℕ → ℕ → ℕ → ℕ → Searched
-searched s which tag ty =
-    searchedAs (soundCheck s) (signatureAt s) (headerAt s) (findIn s (structureOf s which) tag ty)
+abbrev pub openedPlace : Opened → ℕ
+openedPlace (Sound signature header) = 0
+openedPlace (Unsound number place) = place

@@ -2,26 +2,20 @@
 ghost use mathlib.Core.Path.{_≡_};
 ghost use Prim.Native.Nat.{ℕ, _+_, _≤_};
 ghost use lib.ListN.{length};
+ghost use Rattle.format.specs.Sizes.{packageLimit};
 ghost use Rattle.format.specs.Places.{sectionEnd};
 ghost use Rattle.package.specs.Lead.{leadCheck};
-ghost use Rattle.package.specs.Package.{sizeCheck, headerStart, structuresSearched, searched, opened};
+ghost use Rattle.package.specs.Package.{sizeCheck, headerStart, structuresOpened, opened, sectionFor};
 use format::FileOffset;
 use format::Lead;
 use format::Section;
 use format::Verdict;
 use structure::Checked;
-use index::Found;
 
 // A package that passed checks 2 to 13, by its signature and its header, or the first check that failed and its place.
 pub enum Opened {
     Sound(Section, Section),
     Unsound(u32, u32),
-}
-
-// The same, with what was looked for in one of the two.
-pub enum Searched {
-    Within(Section, Section, Found),
-    Refused(u32, u32),
 }
 
 // Checks 2 and 3.
@@ -67,62 +61,52 @@ fn lead_check(lead: Lead) -> Verdict
 
 // Where the header starts: the first multiple of 8 at or after the signature's end.
 fn header_start(signature: Section) -> u32
-    requires { ⌜ sectionEnd signature ≤ 4294967288 ⌝ }
+    requires { ⌜ sectionEnd signature ≤ packageLimit ⌝ }
     ensures { λ r. ⌜ r ≡ headerStart signature ⌝ }
 {
     let end = signature.end();
     ((end.0 + 7) / 8 * 8) as u32
 }
 
-// Checks 5 to 13 for the signature and then the header, and the entry of one of them with the tag and the type.
-fn structures(pkg: &[u8], len: u32, which: u32, tag: u32, ty: u32) -> Searched
-    requires { ⌜ len ≤ 65536 ⌝ }
-    ensures { λ r. ⌜ r ≡ structuresSearched (now (pkg .entry)) len which tag ty ⌝ }
+// Checks 5 to 13 for the signature and then the header.
+fn structures(pkg: &[u8], len: u32) -> Opened
+    requires { ⌜ len ≤ packageLimit ⌝ }
+    ensures { λ r. ⌜ r ≡ structuresOpened (now (pkg .entry)) len ⌝ }
 {
-    let first = structure::check(pkg, len, Lead::SIZE as u32, tag, ty);
+    let first = structure::check(pkg, len, Lead::SIZE as u32);
     match first {
-        Checked::Unsound(number, place) => Searched::Refused(number, place),
-        Checked::Sound(signature, in_signature) => {
+        Checked::Unsound(number, place) => Opened::Unsound(number, place),
+        Checked::Sound(signature) => {
             let start = header_start(signature);
-            let second = structure::check(pkg, len, start, tag, ty);
+            let second = structure::check(pkg, len, start);
             match second {
-                Checked::Unsound(number, place) => Searched::Refused(number, place),
-                Checked::Sound(header, in_header) => {
-                    if which == 0 {
-                        Searched::Within(signature, header, in_signature)
-                    } else {
-                        Searched::Within(signature, header, in_header)
-                    }
-                }
+                Checked::Unsound(number, place) => Opened::Unsound(number, place),
+                Checked::Sound(header) => Opened::Sound(signature, header),
             }
         }
     }
-}
-
-// Checks 2 to 13, and the entry of one structure (0 the signature, any other number the header) with the tag and the type.
-pub fn search(pkg: &[u8], which: u32, tag: u32, ty: u32) -> Searched
-    ensures { λ r. ⌜ r ≡ searched (now (pkg .entry)) which tag ty ⌝ }
-{
-    let len = pkg.len();
-    let size = size_check(len);
-    if let Verdict::Fail(number, place) = size {
-        return Searched::Refused(number, place);
-    }
-    let lead = Lead::of(pkg);
-    let v = lead_check(lead);
-    if let Verdict::Fail(number, place) = v {
-        return Searched::Refused(number, place);
-    }
-    structures(pkg, len as u32, which, tag, ty)
 }
 
 // Checks 2 to 13.
 pub fn open(pkg: &[u8]) -> Opened
     ensures { λ r. ⌜ r ≡ opened (now (pkg .entry)) ⌝ }
 {
-    let found = search(pkg, 0, 0, 0);
-    match found {
-        Searched::Within(signature, header, _) => Opened::Sound(signature, header),
-        Searched::Refused(number, place) => Opened::Unsound(number, place),
+    let len = pkg.len();
+    let size = size_check(len);
+    if let Verdict::Fail(number, place) = size {
+        return Opened::Unsound(number, place);
     }
+    let lead = Lead::of(pkg);
+    let v = lead_check(lead);
+    if let Verdict::Fail(number, place) = v {
+        return Opened::Unsound(number, place);
+    }
+    structures(pkg, len as u32)
+}
+
+// One of two structures: 0 is the signature, any other number the header.
+pub fn section_for(which: u32, signature: Section, header: Section) -> Section
+    ensures { λ r. ⌜ r ≡ sectionFor which signature header ⌝ }
+{
+    if which == 0 { signature } else { header }
 }

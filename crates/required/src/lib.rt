@@ -8,14 +8,14 @@ ghost use Rattle.entries.specs.declared.types.ElementSize.the-variants.{ToZero}
 ghost use Rattle.entries.specs.Types.{elementSize};
 ghost use Rattle.package.specs.Package.{soundCheck, headerAt};
 ghost use Rattle.required.specs.Version.{versionFrom, versionIn, soughtVersion, requiredVersion};
+use format::Section;
+use index::Entry;
+use index::Found;
 use lookups::Sought;
 use lookups::element;
 use lookups::shown;
 use package::Opened;
 use package::open;
-use format::Section;
-use index::Entry;
-use index::Found;
 
 // The tags of required names and versions, and the type of a string array.
 pub struct Require {}

@@ -11,13 +11,10 @@ use Rattle.format.specs.declared.verdict.Verdict.the-variants.{Pass, Fail}
 use Rattle.format.specs.Places.{storePlace}
 use Rattle.format.specs.Records.{headerRecordAt}
 use Rattle.format.proofs.VerdictLaws.{inverted, both-inverted, both-pass, both-fail}
-use Rattle.index.specs.declared.Found.{Found}
-use Rattle.structure.specs.declared.Checked.{Checked}
 use Rattle.structure.specs.declared.Checked.the-variants.{Sound, Unsound}
 use Rattle.entries.specs.Entries.{recordCheck}
 use Rattle.structure.specs.Structure.{sectionOf, sectionAt, headerCheck, recordsFrom, recordsCheck, structureCheck}
 use Rattle.structure.specs.Sound.{SoundHeader}
-use Rattle.index.specs.Lookup.{findIn}
 use Rattle.structure.specs.Checked.{checkedAs, structureChecked}
 
 -- what checks 5 to 8 say of a header record
@@ -39,18 +36,24 @@ header-sound len start h k =
       fits = leb-true _ _ (k8 .0);
     }
 
--- in the shape of what is known where the structure is checked: h is the header record that was read, v what its checks found
-module _ (s : List ℕ) (len start tag ty : ℕ) {h : HeaderRecord} (q : h ≡ headerRecordAt s start) {v : Verdict}
+-- in the shape of what is known where the structure is checked: h is the header record that was read, v what its checks
+-- found, w what the records' checks found
+module _ (s : List ℕ) (len start : ℕ) {h : HeaderRecord} (q : h ≡ headerRecordAt s start) {v : Verdict}
     (p : v ≡ headerCheck len start h) where
-  pub refused : {number at : ℕ} → v ≡ Fail number at → Unsound number at ≡ structureChecked s len start tag ty
+  pub refused : {number at : ℕ} → v ≡ Fail number at → Unsound number at ≡ structureChecked s len start
   unfolding structureCheck
   refused k = rw (both-fail _ (rw q at (sym p ∙ k)))
 
-  pub sound : {r : Checked} → v ≡ Pass
-      → r ≡ checkedAs (recordsCheck s (sectionOf start h)) (sectionOf start h) (findIn s (sectionOf start h) tag ty)
-      → r ≡ structureChecked s len start tag ty
-  unfolding structureCheck
-  sound k j = rw (both-pass {rest = recordsCheck s (sectionAt s start)} (rw q at (sym p ∙ k))) (rw q at j)
+  module _ {w : Verdict} (k : v ≡ Pass) (j : w ≡ recordsCheck s (sectionOf start h)) where
+    rest : structureCheck s len start ≡ w
+    unfolding structureCheck
+    rest = both-pass {rest = recordsCheck s (sectionAt s start)} (rw q at (sym p ∙ k)) ∙ sym (rw q at j)
+
+    pub sound : w ≡ Pass → Sound (sectionOf start h) ≡ structureChecked s len start
+    sound l = rw (rest ∙ l, q)
+
+    pub unsound : {number at : ℕ} → w ≡ Fail number at → Unsound number at ≡ structureChecked s len start
+    unsound l = rw (rest ∙ l)
 
   pub store-small : v ≡ Pass → len < 4294967296 → storePlace (sectionOf start h) < 4294967296
   store-small k l = let b = header-sound len start h (sym p ∙ k) .fits in omega arith
@@ -80,12 +83,12 @@ module _ (s : List ℕ) (len start : ℕ) (h : structureCheck s len start ≡ Pa
       rw e at (each s (sectionAt s start) (sectionAt s start .nindex) 0 (both-inverted _ _ h .1) k l)
 
 -- what a checked structure says of its verdict
-pub checked-sound : (v : Verdict) (section : Section) (found : Found) {section′ : Section} {found′ : Found}
-    → checkedAs v section found ≡ Sound section′ found′ → (v ≡ Pass) × (section ≡ section′) × (found ≡ found′)
-checked-sound Pass section found h = (refl, cc, cc)
-checked-sound (Fail number place) section found h = let z : _≡_ {A = ℕ} 0 1 = cc in absurd (omega arith)
+pub checked-sound : (v : Verdict) (section : Section) {section′ : Section} → checkedAs v section ≡ Sound section′
+    → (v ≡ Pass) × (section ≡ section′)
+checked-sound Pass section h = (refl, cc)
+checked-sound (Fail number place) section h = let z : _≡_ {A = ℕ} 0 1 = cc in absurd (omega arith)
 
-pub checked-unsound : (v : Verdict) (section : Section) (found : Found) {number place : ℕ}
-    → checkedAs v section found ≡ Unsound number place → v ≡ Fail number place
-checked-unsound Pass section found h = let z : _≡_ {A = ℕ} 0 1 = cc in absurd (omega arith)
-checked-unsound (Fail number place) section found h = cc
+pub checked-unsound : (v : Verdict) (section : Section) {number place : ℕ} → checkedAs v section ≡ Unsound number place
+    → v ≡ Fail number place
+checked-unsound Pass section h = let z : _≡_ {A = ℕ} 0 1 = cc in absurd (omega arith)
+checked-unsound (Fail number place) section h = cc

@@ -3,21 +3,17 @@ ghost use mathlib.Core.Path.{_≡_};
 ghost use Prim.Native.Nat.{ℕ, _<_};
 ghost use Rattle.format.specs.Places.{storePlace};
 ghost use Rattle.structure.specs.Structure.{headerCheck, recordsCheck};
-ghost use Rattle.index.specs.Lookup.{findIn};
-ghost use Rattle.structure.specs.Checked.{checkedAs, structureChecked};
-use entries::data_end;
+ghost use Rattle.structure.specs.Checked.{structureChecked};
 use entries::entry_check;
-use index::Found;
-use index::note;
+use entries::record_at;
 use format::FileOffset;
 use format::HeaderRecord;
-use format::IndexRecord;
 use format::Section;
 use format::Verdict;
 
-// A structure that passed its checks, with what was looked for in it, or the first check that failed and its place.
+// A structure that passed its checks, or the first check that failed and its place.
 pub enum Checked {
-    Sound(Section, Found),
+    Sound(Section),
     Unsound(u32, u32),
 }
 
@@ -30,17 +26,20 @@ fn header_check(len: u32, start: u32, h: HeaderRecord) -> Verdict
     if room < first {
         return Verdict::Fail(5, start);
     }
+    let reserved = start + HeaderRecord::RESERVED as u32;
+    let nindex = start + HeaderRecord::NINDEX as u32;
+    let hsize = start + HeaderRecord::HSIZE as u32;
     if h.magic != 0x8EAD_E801 {
         return Verdict::Fail(6, start);
     }
     if h.reserved != 0 {
-        return Verdict::Fail(6, start + 4);
+        return Verdict::Fail(6, reserved);
     }
     if h.nindex < 1 {
-        return Verdict::Fail(7, start + 8);
+        return Verdict::Fail(7, nindex);
     }
     if HeaderRecord::NINDEX_LIMIT < h.nindex {
-        return Verdict::Fail(7, start + 8);
+        return Verdict::Fail(7, nindex);
     }
     let section = Section {
         start: start,
@@ -49,36 +48,33 @@ fn header_check(len: u32, start: u32, h: HeaderRecord) -> Verdict
     };
     let end = section.end();
     if room < end.0 {
-        return Verdict::Fail(8, start + 12);
+        return Verdict::Fail(8, hsize);
     }
     Verdict::Pass
 }
 
-// Checks 9 to 13 for each index record in turn, and the entry with the tag and the type.
-fn records_check(s: &[u8], section: Section, tag: u32, ty: u32) -> Checked
+// Checks 9 to 13 for each index record in turn.
+fn records_check(s: &[u8], section: Section) -> Verdict
     requires { ⌜ storePlace section < 4294967296 ⌝ }
-    ensures { λ r. ⌜ r ≡ checkedAs (recordsCheck (now (s .entry)) section) section (findIn (now (s .entry)) section tag ty) ⌝ }
+    ensures { λ r. ⌜ r ≡ recordsCheck (now (s .entry)) section ⌝ }
 {
     let n = section.nindex;
-    let mut found = Found::Nothing;
     let mut i = 0;
     while i < n {
         let place = section.index_record(i);
-        let e = IndexRecord::at(s, place);
-        let end = data_end(s, section, e);
-        let v = entry_check(s, section, i, place.0 as u32, e, end);
+        let e = record_at(s, section, n, i);
+        let v = entry_check(s, section, i, place.0 as u32, e);
         if let Verdict::Fail(number, at) = v {
-            return Checked::Unsound(number, at);
+            return Verdict::Fail(number, at);
         }
-        found = note(found, tag, ty, section, e, end);
         i += 1;
     }
-    Checked::Sound(section, found)
+    Verdict::Pass
 }
 
-// Checks 5 to 13 for the structure at `start` in a package of `len` bytes, and the entry with the tag and the type.
-pub fn check(s: &[u8], len: u32, start: u32, tag: u32, ty: u32) -> Checked
-    ensures { λ r. ⌜ r ≡ structureChecked (now (s .entry)) len start tag ty ⌝ }
+// Checks 5 to 13 for the structure at `start` in a package of `len` bytes.
+pub fn check(s: &[u8], len: u32, start: u32) -> Checked
+    ensures { λ r. ⌜ r ≡ structureChecked (now (s .entry)) len start ⌝ }
 {
     let h = HeaderRecord::at(s, FileOffset(start as usize));
     let v = header_check(len, start, h);
@@ -90,5 +86,9 @@ pub fn check(s: &[u8], len: u32, start: u32, tag: u32, ty: u32) -> Checked
         nindex: h.nindex,
         hsize: h.hsize,
     };
-    records_check(s, section, tag, ty)
+    let w = records_check(s, section);
+    if let Verdict::Fail(number, at) = w {
+        return Checked::Unsound(number, at);
+    }
+    Checked::Sound(section)
 }

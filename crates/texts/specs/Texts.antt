@@ -2,7 +2,7 @@
 use Prim.Native.Nat.{ℕ, zero, suc, _+_}
 use mathlib.Core.List.{List, [], _∷_}
 use mathlib.Core.Bool.{Bool, true, cond, _&&_}
-use lib.ListN.{getD, take, drop}
+use lib.ListN.{getD}
 use lib.Dec.{eqb, ltb}
 use Rattle.be.specs.Numbers.{be32At}
 use Rattle.be.specs.Bytes.{sameBytes}
@@ -12,16 +12,11 @@ use Rattle.format.specs.declared.verdict.Verdict.the-variants.{Pass}
 use Rattle.format.specs.Verdicts.{check}
 use Rattle.index.specs.declared.Found.{Found}
 use Rattle.index.specs.declared.Found.the-variants.{At, Nothing}
-use Rattle.index.specs.Lookup.{taggedIn, entryFor}
+use Rattle.index.specs.Lookup.{foundBytes, taggedIn, entryFor}
 use Rattle.tags.specs.Tags.{countIn}
 
 abbrev pub entryIn : List ℕ → Section → ℕ → Found
 entryIn s section tag = entryFor s section (taggedIn s section tag)
-
--- the bytes of an entry that was found; none where nothing was
-abbrev pub foundBytes : List ℕ → Found → List ℕ
-foundBytes s (At entry) = take (entry .extent) (drop (entry .at .0) s)
-foundBytes s Nothing = []
 
 -- "linux" and "/bin/sh", each with its zero byte
 abbrev pub linux : List ℕ

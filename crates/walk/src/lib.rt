@@ -3,12 +3,12 @@ ghost use mathlib.Core.Path.{_≡_};
 ghost use Prim.Native.Nat.{ℕ, _+_, _≤_, _<_};
 ghost use Rattle.format.specs.Places.{sectionEnd};
 ghost use Rattle.walk.specs.Walk.{refusedStep, stepIn, stepOf};
-use package::Opened;
-use package::open;
 use format::Answer;
 use format::IndexRecord;
 use format::Section;
 use format::StoreOffset;
+use package::Opened;
+use package::open;
 
 // A position in an index: the number of a record.
 pub struct Position {

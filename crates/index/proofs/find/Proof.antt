@@ -1,30 +1,30 @@
 -- The records that are left decide. Assumes nothing.
-use borrow.Author.Needs.{needs}
-use Prim.Native.Nat.{_≤_, _-_}
-use mathlib.Core.Path.{_≡_}
-use native.Mathlib.Nat.{sub-zero}
 use Rattle.index.specs.Lookup.{findFrom}
 use Rattle.index.proofs.LookupLaws as laws
+use native.Mathlib.Nat.{sub-zero}
+use mathlib.Core.Path.{_≡_}
+use Prim.Native.Nat.{_≤_, _-_}
+use borrow.Author.Needs.{needs}
 use Rattle.index.proofs.find.Statement.{statement}
 use Rattle.index.proofs.find.Tie as tie
 
 abbrev Inv-loop : tie.InvT-loop
-Inv-loop s section tag ty n i₀ i = (i ≤ n) × (findFrom s section n 0 tag ty ≡ findFrom s section (n - i) i tag ty)
+Inv-loop s section tag ty n next₀ next = (next ≤ n) × (findFrom s section n 0 tag ty ≡ findFrom s section (n - next) next tag ty)
 
 abbrev μ-loop : tie.MeasureT-loop
-μ-loop s section tag ty n i₀ i = n - i
+μ-loop s section tag ty n next₀ next = n - next
 
 loop-holds : tie.Need-loop-holds Inv-loop μ-loop
 loop-holds c = (search needs, simp sub-zero)
 
-index-record-requires : tie.Need-index-record-requires Inv-loop μ-loop
-index-record-requires c κs = search needs
+add-next : tie.Need-add-next Inv-loop μ-loop
+add-next c = search needs
 
-at-requires : tie.Need-at-requires Inv-loop μ-loop
-at-requires c κs = search needs
+tag-at-requires : tie.Need-tag-at-requires Inv-loop μ-loop
+tag-at-requires c κs = search needs
 
-is-for-requires : tie.Need-is-for-requires Inv-loop μ-loop
-is-for-requires c κs = search needs
+record-at-requires : tie.Need-record-at-requires Inv-loop μ-loop
+record-at-requires c κs = search needs
 
 data-end-requires : tie.Need-data-end-requires Inv-loop μ-loop
 data-end-requires c κs = search needs
@@ -35,14 +35,17 @@ entry-of-requires c κs = search needs
 returns : tie.Need-returns Inv-loop μ-loop
 returns c = search laws.ends
 
-add-i : tie.Need-add-i Inv-loop μ-loop
-add-i c = search needs
-
 loop-less : tie.Need-loop-less Inv-loop μ-loop
 loop-less c = search needs
 
 loop-again : tie.Need-loop-again Inv-loop μ-loop
-loop-again c = (search needs, search laws.turn)
+loop-again c = (search needs, search laws.other-type)
+
+loop-less-2 : tie.Need-loop-less-2 Inv-loop μ-loop
+loop-less-2 c = search needs
+
+loop-again-2 : tie.Need-loop-again-2 Inv-loop μ-loop
+loop-again-2 c = (search needs, search laws.other-tag)
 
 returns-2 : tie.Need-returns-2 Inv-loop μ-loop
 returns-2 c = search laws.spent
@@ -54,13 +57,14 @@ find-spec =
     Inv-loop
     μ-loop
     loop-holds
-    index-record-requires
-    at-requires
-    is-for-requires
+    add-next
+    tag-at-requires
+    record-at-requires
     data-end-requires
     entry-of-requires
     returns
-    add-i
     loop-less
     loop-again
+    loop-less-2
+    loop-again-2
     returns-2)

@@ -1,9 +1,10 @@
-use borrow.Author.Needs.{needs}
-use Prim.Native.Nat.{_≤_, _-_}
-use mathlib.Core.Path.{_≡_}
-use native.Mathlib.Nat.{sub-zero}
+-- The records that are left decide. Assumes nothing.
 use Rattle.index.specs.Lookup.{taggedFrom}
 use Rattle.index.proofs.LookupLaws as laws
+use native.Mathlib.Nat.{sub-zero}
+use mathlib.Core.Path.{_≡_}
+use Prim.Native.Nat.{_≤_, _-_}
+use borrow.Author.Needs.{needs}
 use Rattle.index.proofs.find_tag.Statement.{statement}
 use Rattle.index.proofs.find_tag.Tie as tie
 
@@ -19,15 +20,11 @@ loop-holds c = (search needs, simp sub-zero)
 tag-at-requires : tie.Need-tag-at-requires Inv-loop μ-loop
 tag-at-requires c κs = search needs
 
-index-record-requires : tie.Need-index-record-requires Inv-loop μ-loop
-index-record-requires c κs = search needs
-
-at-requires : tie.Need-at-requires Inv-loop μ-loop
-at-requires c κs = search needs
+record-at-requires : tie.Need-record-at-requires Inv-loop μ-loop
+record-at-requires c κs = search needs
 
 returns : tie.Need-returns Inv-loop μ-loop
-returns c = let in-loop = c .before .before .before .before in
-    laws.tagged-ends _ _ _ _ _ (in-loop .before .loop .inv .1) (c .before .before .before .tag-at .ensures) (c .before .before .if1 .taken) (in-loop .loop-test .taken) (c .before .index-record .ensures) (c .at .ensures)
+returns c = search laws.tagged-ends
 
 add-i : tie.Need-add-i Inv-loop μ-loop
 add-i c = search needs
@@ -50,8 +47,7 @@ find-tag-spec =
     μ-loop
     loop-holds
     tag-at-requires
-    index-record-requires
-    at-requires
+    record-at-requires
     returns
     add-i
     loop-less

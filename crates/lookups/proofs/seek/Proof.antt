@@ -1,20 +1,26 @@
--- By the case of the search. Assumes nothing.
+-- By what was opened, then by what is found. Assumes nothing.
 use Rattle.lookups.proofs.SeekLaws as laws
 use borrow.Author.Needs.{needs}
 use Rattle.lookups.proofs.seek.Statement.{statement}
 use Rattle.lookups.proofs.seek.Tie as tie
 
-search-requires : tie.Need-search-requires
-search-requires c κs = search needs
+open-requires : tie.Need-open-requires
+open-requires c κs = search needs
+
+enum-known-opened : tie.Need-enum-known-opened
+enum-known-opened c = search needs
+
+enum-known-opened-2 : tie.Need-enum-known-opened-2
+enum-known-opened-2 c = search needs
+
+section-for-requires : tie.Need-section-for-requires
+section-for-requires c κs = search needs
+
+find-requires : tie.Need-find-requires
+find-requires c κs = search needs
 
 enum-known-found : tie.Need-enum-known-found
 enum-known-found c = search needs
-
-enum-known-found-2 : tie.Need-enum-known-found-2
-enum-known-found-2 c = search needs
-
-enum-known-f : tie.Need-enum-known-f
-enum-known-f c = search needs
 
 enum-told : tie.Need-enum-told
 enum-told c = search needs
@@ -32,10 +38,12 @@ pub seek-spec : {M : Type 1} → statement M
 seek-spec =
     tie.close
     (tie.spec
-    search-requires
+    open-requires
+    enum-known-opened
+    enum-known-opened-2
+    section-for-requires
+    find-requires
     enum-known-found
-    enum-known-found-2
-    enum-known-f
     enum-told
     returns
     returns-2

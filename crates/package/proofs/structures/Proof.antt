@@ -35,10 +35,7 @@ returns-2 : tie.Need-returns-2
 returns-2 c = search laws.second-refused
 
 returns-3 : tie.Need-returns-3
-returns-3 c = search laws.in-signature
-
-returns-4 : tie.Need-returns-4
-returns-4 c = search laws.in-header
+returns-3 c = search laws.both-sound
 
 pub structures-spec : {M : Type 1} → statement M
 structures-spec =
@@ -54,5 +51,4 @@ structures-spec =
     enum-known-second-2
     returns
     returns-2
-    returns-3
-    returns-4)
+    returns-3)

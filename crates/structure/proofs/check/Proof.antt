@@ -22,8 +22,17 @@ enum-told c = search needs
 records-check-requires : tie.Need-records-check-requires
 records-check-requires c κs = search laws.store-small
 
+enum-known-w : tie.Need-enum-known-w
+enum-known-w c = search needs
+
 returns-2 : tie.Need-returns-2
-returns-2 c = search laws.sound
+returns-2 c = search laws.unsound
+
+enum-told-2 : tie.Need-enum-told-2
+enum-told-2 c = search needs
+
+returns-3 : tie.Need-returns-3
+returns-3 c = search laws.sound
 
 pub check-spec : {M : Type 1} → statement M
 check-spec =
@@ -35,4 +44,7 @@ check-spec =
     returns
     enum-told
     records-check-requires
-    returns-2)
+    enum-known-w
+    returns-2
+    enum-told-2
+    returns-3)

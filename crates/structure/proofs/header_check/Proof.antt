@@ -14,27 +14,36 @@ returns : tie.Need-returns
 unfolding headerCheck
 returns c = stopped _ (omega (arith, tests))
 
+cast-reserved : tie.Need-cast-reserved
+cast-reserved c = search needs
+
+add-reserved : tie.Need-add-reserved
+add-reserved c = search needs
+
+cast-nindex : tie.Need-cast-nindex
+cast-nindex c = search needs
+
+add-nindex : tie.Need-add-nindex
+add-nindex c = search needs
+
+cast-hsize : tie.Need-cast-hsize
+cast-hsize c = search needs
+
+add-hsize : tie.Need-add-hsize
+add-hsize c = search needs
+
 returns-2 : tie.Need-returns-2
 unfolding headerCheck
 returns-2 c = passed _ _ (omega (arith, tests)) (stopped _ (omega (arith, tests)))
-
-add-t10 : tie.Need-add-t10
-add-t10 c = search needs
 
 returns-3 : tie.Need-returns-3
 unfolding headerCheck
 returns-3 c = passed _ _ (omega (arith, tests)) (passed _ _ (omega (arith, tests)) (stopped _ (omega (arith, tests))))
 
-add-t11 : tie.Need-add-t11
-add-t11 c = search needs
-
 returns-4 : tie.Need-returns-4
 unfolding headerCheck
 returns-4 c = passed _ _ (omega (arith, tests)) (passed _ _ (omega (arith, tests)) (passed _ _ (omega (arith, tests))
     (stopped _ (omega (arith, tests)))))
-
-add-t12 : tie.Need-add-t12
-add-t12 c = search needs
 
 returns-5 : tie.Need-returns-5
 unfolding headerCheck
@@ -43,9 +52,6 @@ returns-5 c = passed _ _ (omega (arith, tests)) (passed _ _ (omega (arith, tests
 
 end-requires : tie.Need-end-requires
 end-requires c κs = search needs
-
-add-t13 : tie.Need-add-t13
-add-t13 c = search needs
 
 returns-6 : tie.Need-returns-6
 unfolding headerCheck
@@ -63,14 +69,16 @@ header-check-spec =
     (tie.spec
     add-first
     returns
+    cast-reserved
+    add-reserved
+    cast-nindex
+    add-nindex
+    cast-hsize
+    add-hsize
     returns-2
-    add-t10
     returns-3
-    add-t11
     returns-4
-    add-t12
     returns-5
     end-requires
-    add-t13
     returns-6
     returns-7)

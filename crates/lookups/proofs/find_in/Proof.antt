@@ -1,8 +1,8 @@
--- By what stands under the tag and the type. Assumes nothing.
-use Rattle.reading.proofs.OpenedLaws as laws
+-- By whether an entry is found. Assumes nothing.
+use Rattle.lookups.proofs.SeekLaws as laws
 use borrow.Author.Needs.{needs}
-use Rattle.reading.proofs.opened.find_in.Statement.{statement}
-use Rattle.reading.proofs.opened.find_in.Tie as tie
+use Rattle.lookups.proofs.find_in.Statement.{statement}
+use Rattle.lookups.proofs.find_in.Tie as tie
 
 find-requires : tie.Need-find-requires
 find-requires c κs = search needs
@@ -20,10 +20,10 @@ slice-aggregate-result : tie.Need-slice-aggregate-result
 slice-aggregate-result c = search needs
 
 returns : tie.Need-returns
-returns c = search laws.found-here
+returns c = search laws.bytes-found
 
 returns-2 : tie.Need-returns-2
-returns-2 c = search laws.found-none
+returns-2 c = search laws.bytes-none
 
 pub find-in-spec : {M : Type 1} → statement M
 find-in-spec =
