@@ -16,9 +16,8 @@ use Rattle.format.specs.Places.{inFile}
 use Rattle.entries.specs.Types.{elementSize}
 use Rattle.entries.specs.Entries.{recordAt}
 use Rattle.index.specs.declared.Found.{Found}
-use Rattle.index.specs.Lookup.{taggedIn, entryAt}
+use Rattle.index.specs.Lookup.{taggedIn, entryAt, foundBytes}
 use Rattle.structure.specs.Structure.{sectionAt}
-use Rattle.index.specs.Lookup.{foundBytes}
 use Rattle.catalogue.specs.declared.Line.{Line}
 use Rattle.catalogue.specs.Catalogue.{signatureLines, headerLines, catalogue, lineAt, inEdition}
 use Rattle.rules.specs.Rules.{sizeTagCheck}

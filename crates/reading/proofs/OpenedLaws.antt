@@ -3,7 +3,7 @@ use Prim.Native.Nat.{ℕ, _*_, _≤_, _<_}
 use mathlib.Core.Path.{_≡_, sym, ap, _∙_}
 use mathlib.Core.List.{List, []}
 use mathlib.Core.Bool.{Bool, true, false, not}
-use lib.ListN.{length, take, drop}
+use lib.ListN.{length}
 use lib.Dec.{leb}
 use mir.Syntax.{w32}
 use mir.Val.{Fits}
@@ -15,16 +15,12 @@ use Rattle.format.specs.declared.verdict.Verdict.{Verdict}
 use Rattle.format.specs.declared.verdict.Verdict.the-variants.{Pass, Fail}
 use Rattle.format.specs.Verdicts.{check, both}
 use Rattle.format.proofs.VerdictLaws.{both-pass, both-fail}
-use Rattle.index.specs.declared.Entry.{Entry}
-use Rattle.index.specs.declared.Found.{Found}
-use Rattle.index.specs.declared.Found.the-variants.{At, Nothing}
 use Rattle.catalogue.specs.declared.Line.{Line}
 use Rattle.catalogue.specs.Catalogue.{inEdition, lineAt}
 use Rattle.catalogue.specs.Words.{int32}
-use Rattle.index.specs.Lookup.{findIn}
+use Rattle.lookups.specs.Lookup.{bytesIn}
 use Rattle.package.specs.declared.Opened.{Opened}
 use Rattle.package.specs.declared.Opened.the-variants.{Sound, Unsound}
-use Rattle.index.specs.Lookup.{foundBytes}
 use Rattle.rules.specs.Rules.{rulesCheck}
 use Rattle.book.specs.declared.Weighed.{Weighed}
 use Rattle.book.specs.declared.Weighed.the-variants as weighed′
@@ -36,15 +32,6 @@ use Rattle.reading.specs.Editions.{editionOf, batchTag, batchLine}
 use Rattle.reading.specs.Reading.{bookIn, weightIn, sumCheck, roomCheck, bookPart, openedCheck}
 use Rattle.reading.specs.Weighings.{openedBook, weighingAs}
 
--- the bytes of what was found
-module _ (s : List ℕ) (section : Section) (tag ty : ℕ) {f : Found} (p : f ≡ findIn s section tag ty) where
-  pub found-here : {entry : Entry} {l : List ℕ} → f ≡ At entry → l ≡ take (entry .extent) (drop (entry .at .0) s)
-      → l ≡ foundBytes s (findIn s section tag ty)
-  found-here h k = k ∙ ap (foundBytes s) (sym h ∙ p)
-
-  pub found-none : f ≡ Nothing → [] ≡ foundBytes s (findIn s section tag ty)
-  found-none h = ap (foundBytes s) (sym h ∙ p)
-
 -- the book of a package as it was opened
 module _ (s : List ℕ) {f : Opened} where
   pub book-here : {signature header : Section} {l : List ℕ} → f ≡ Sound signature header → l ≡ bookIn s header → l ≡ openedBook s f
@@ -53,7 +40,7 @@ module _ (s : List ℕ) {f : Opened} where
   pub no-book : {number place : ℕ} → f ≡ Unsound number place → [] ≡ openedBook s f
   no-book h = ap (openedBook s) (sym h)
 
-pub weight-at : (s : List ℕ) (header : Section) {l : List ℕ} {n : ℕ} → l ≡ foundBytes s (findIn s header batchTag int32)
+pub weight-at : (s : List ℕ) (header : Section) {l : List ℕ} {n : ℕ} → l ≡ bytesIn s header batchTag int32
     → n ≡ be32At l 0 → n ≡ weightIn s header
 weight-at s header p q = q ∙ ap (λ (l : List ℕ). be32At l 0) p
 

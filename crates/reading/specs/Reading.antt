@@ -12,8 +12,7 @@ use Rattle.format.specs.declared.verdict.Answer.{Answer}
 use Rattle.format.specs.declared.verdict.Answer.the-variants.{Done, Refused}
 use Rattle.format.specs.Verdicts.{check, both}
 use Rattle.package.specs.Package.{soundCheck, signatureAt, headerAt}
-use Rattle.index.specs.Lookup.{findIn}
-use Rattle.index.specs.Lookup.{foundBytes}
+use Rattle.lookups.specs.Lookup.{bytesIn}
 use Rattle.catalogue.specs.Words.{int32, bin}
 use Rattle.rules.specs.Rules.{rulesCheck}
 use Rattle.book.specs.Book.{bookTag, bookCheck}
@@ -30,14 +29,14 @@ editionCheck edition =
 
 -- the book: what a look-up in the header shows for 20001, bin
 abbrev pub bookIn : List ℕ → Section → List ℕ
-bookIn s header = foundBytes s (findIn s header bookTag bin)
+bookIn s header = bytesIn s header bookTag bin
 
 abbrev pub bookOf : List ℕ → List ℕ
 bookOf s = bookIn s (headerAt s)
 
 -- the batch weight: the number that it shows for 20002, int32
 abbrev pub weightIn : List ℕ → Section → ℕ
-weightIn s header = be32At (foundBytes s (findIn s header batchTag int32)) 0
+weightIn s header = be32At (bytesIn s header batchTag int32) 0
 
 -- 23 | sum isn't 20002's (edition 2) | 20002
 unfoldable pub sumCheck : Edition → List ℕ → Section → ℕ → Verdict

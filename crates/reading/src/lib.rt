@@ -80,12 +80,12 @@ pub fn read_bytes(edition: u32, pkg: &[u8], doses: &mut [u8]) -> Answer
     let w = decide(edition, pkg, found, bytes, doses.len() / 4);
     match w {
         Weighing::Refused(number, place) => Answer::Refused(number, place),
-        Weighing::Doses(count) => {
-            if count == 0 {
-                return Answer::Done(count);
+        Weighing::Doses(n) => {
+            if n == 0 {
+                return Answer::Done(n);
             }
             buffer::write_bytes(bytes, doses);
-            Answer::Done(count)
+            Answer::Done(n)
         }
     }
 }

@@ -2,8 +2,6 @@
 ghost use mathlib.Core.Path.{_≡_};
 ghost use Prim.Native.Nat.{ℕ, _≤_};
 ghost use lib.ListN.{length};
-ghost use Rattle.index.specs.Lookup.{findIn};
-ghost use Rattle.index.specs.Lookup.{foundBytes};
 ghost use Rattle.book.specs.Doses.{doses};
 ghost use Rattle.reading.specs.Editions.{editionOf};
 ghost use Rattle.reading.specs.Reading.{weightIn, sumCheck, bookPart, openedCheck};
@@ -14,7 +12,6 @@ use book::Weighed;
 use catalogue::Line;
 use format::Section;
 use format::Verdict;
-use index::Found;
 use package::Opened;
 
 // The dose count of a package that passed its checks, or the first check that failed and its place.
@@ -41,22 +38,12 @@ impl BookEntry {
     pub const TYPE: u32 = 7;
 }
 
-pub(crate) fn find_in(pkg: &[u8], section: Section, tag: u32, ty: u32) -> &[u8]
-    ensures { λ r. ⌜ now r ≡ foundBytes (now (pkg .entry)) (findIn (now (pkg .entry)) section tag ty) ⌝ }
-{
-    let found = index::find(pkg, section, tag, ty);
-    match found {
-        Found::At(entry) => be::part(pkg, entry.at.0, entry.extent),
-        Found::Nothing => &pkg[..0],
-    }
-}
-
 // The book of a package: what a look-up in its header shows for 20001, bin; none where the package is unsound.
 pub(crate) fn book_part(pkg: &[u8], found: Opened) -> &[u8]
     ensures { λ r. ⌜ now r ≡ openedBook (now (pkg .entry)) found ⌝ }
 {
     match found {
-        Opened::Sound(_, header) => find_in(pkg, header, Book::TAG, BookEntry::TYPE),
+        Opened::Sound(_, header) => lookups::find_in(pkg, header, Book::TAG, BookEntry::TYPE),
         Opened::Unsound(_, _) => &pkg[..0],
     }
 }
@@ -65,7 +52,7 @@ pub(crate) fn book_part(pkg: &[u8], found: Opened) -> &[u8]
 fn weight(pkg: &[u8], header: Section) -> u32
     ensures { λ r. ⌜ r ≡ weightIn (now (pkg .entry)) header ⌝ }
 {
-    be::be32(find_in(pkg, header, Batch::TAG, Batch::TYPE), 0)
+    be::be32(lookups::find_in(pkg, header, Batch::TAG, Batch::TYPE), 0)
 }
 
 // Check 23, for the sum of a book's doses.
