@@ -1,13 +1,13 @@
 -- Demand 1: refused-keeps and accepted-writes.
-use Prim.Native.Nat.{ℕ, _+_, _*_, _≤_}
-use mathlib.Core.Path.{_≡_, refl, _∙_}
-use mathlib.Core.List.{List, [], _∷_, _++_}
+use Prim.Native.Nat.{ℕ, _+_, _≤_}
+use mathlib.Core.Path.{_≡_, _∙_}
+use mathlib.Core.List.{List, _++_}
 use lib.ListN.{length, drop}
 use lib.Seq.{sets, sets-eq}
 use native.Mathlib.Omega.{arith}
-use Rattle.book.specs.declared.dose.Dose.{Dose}
 use Rattle.book.specs.Doses.{doses}
-use Rattle.buffer.specs.Buffer.{numbersOf, numberBytes}
+use Rattle.buffer.specs.Buffer.{numbersOf}
+use Rattle.buffer.proofs.BufferLaws.{numbers-room, bytes-room}
 use Rattle.reading.specs.Reading.{bookOf, readingCheck}
 use Rattle.reading.specs.Buffers.{Form, Numbers, Bytes, roomIn, cells, put, leftIn}
 use Rattle.demands.specs.Demands.{doseCells, RefusedKeeps, AcceptedWrites}
@@ -18,21 +18,11 @@ unfolding leftIn
 refused-keeps form edition s before number place h =
     rw (refused (readingCheck edition s (roomIn form before)) (length (doses (bookOf s))) h)
 
-numbers-length : (l : List Dose) → length (numbersOf l) ≡ 2 * length l
-unfolding numbersOf
-numbers-length [] = refl
-numbers-length (d ∷ l) = let e = numbers-length l in omega arith
-
-bytes-length : (l : List ℕ) → length (numberBytes l) ≡ 4 * length l
-unfolding numberBytes
-bytes-length [] = refl
-bytes-length (n ∷ l) = let e = bytes-length l in omega arith
-
 -- a buffer with room for numbers has room for their cells
 cells-fit : (form : Form) (before numbers : List ℕ) → length numbers ≤ roomIn form before
     → length (cells form numbers) ≤ length before
 cells-fit Numbers before numbers h = h
-cells-fit Bytes before numbers h = let e = bytes-length numbers in omega arith
+cells-fit Bytes before numbers h = let e = bytes-room numbers in omega arith
 
 front : (before l : List ℕ) → length l ≤ length before → sets before 0 l ≡ l ++ drop (length l) before
 front before l h =
@@ -50,5 +40,5 @@ unfolding leftIn
 accepted-writes form edition s before count h =
     let k = done (readingCheck edition s (roomIn form before)) (length (doses (bookOf s))) h in
     let r = pass-room edition s (roomIn form before) (k .0) in
-    let n = numbers-length (doses (bookOf s)) in
+    let n = numbers-room (doses (bookOf s)) in
     (k .1, rw (k .0) (doses-put form (bookOf s) before (cells-fit form before (numbersOf (doses (bookOf s))) (omega arith))))
