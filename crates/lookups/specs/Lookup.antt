@@ -7,7 +7,6 @@ use lib.Dec.{ltb}
 use Rattle.strings.specs.declared.Ending.{Ending}
 use Rattle.strings.specs.declared.Ending.the-variants.{Ends, Open}
 use Rattle.strings.specs.Strings.{stringsFrom}
-use Rattle.format.specs.declared.places.Section.{Section}
 use Rattle.format.specs.declared.verdict.Verdict.{Verdict}
 use Rattle.format.specs.declared.verdict.Verdict.the-variants.{Pass, Fail}
 use Rattle.format.specs.declared.verdict.Answer.{Answer}
@@ -18,7 +17,7 @@ use Rattle.index.specs.declared.Entry.{Entry}
 use Rattle.index.specs.declared.Found.{Found}
 use Rattle.index.specs.declared.Found.the-variants.{At, Nothing}
 use Rattle.entries.specs.Types.{elementSize}
-use Rattle.index.specs.Lookup.{extentTo, findIn, foundBytes}
+use Rattle.index.specs.Lookup.{extentTo, findIn}
 use Rattle.lookups.specs.declared.Sought.{Sought}
 use Rattle.lookups.specs.declared.Sought.the-variants.{Here, Refused}
 use Rattle.package.specs.Package.{soundCheck, structureOf}
@@ -47,10 +46,6 @@ soughtAnswer (Refused number place) = answer.Refused number place
 
 abbrev pub findBytes : List ℕ → ℕ → ℕ → ℕ → List ℕ
 findBytes s which tag ty = soughtBytes s (sought s which tag ty)
-
--- the bytes that a structure of an opened package holds under a tag and a type
-abbrev pub bytesIn : List ℕ → Section → ℕ → ℕ → List ℕ
-bytesIn s section tag ty = foundBytes s (findIn s section tag ty)
 
 abbrev pub findAnswer : List ℕ → ℕ → ℕ → ℕ → Answer
 findAnswer s which tag ty = soughtAnswer (sought s which tag ty)

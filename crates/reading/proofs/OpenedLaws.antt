@@ -18,7 +18,7 @@ use Rattle.format.proofs.VerdictLaws.{both-pass, both-fail}
 use Rattle.catalogue.specs.declared.Line.{Line}
 use Rattle.catalogue.specs.Catalogue.{inEdition, lineAt}
 use Rattle.catalogue.specs.Words.{int32}
-use Rattle.lookups.specs.Lookup.{bytesIn}
+use Rattle.lookups.specs.Within.{bytesIn}
 use Rattle.package.specs.declared.Opened.{Opened}
 use Rattle.package.specs.declared.Opened.the-variants.{Sound, Unsound}
 use Rattle.rules.specs.Rules.{rulesCheck}
