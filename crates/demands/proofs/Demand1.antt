@@ -41,4 +41,5 @@ accepted-writes form edition s before count h =
     let k = done (readingCheck edition s (roomIn form before)) (length (doses (bookOf s))) h in
     let r = pass-room edition s (roomIn form before) (k .0) in
     let n = numbers-room (doses (bookOf s)) in
-    (k .1, rw (k .0) (doses-put form (bookOf s) before (cells-fit form before (numbersOf (doses (bookOf s))) (omega arith))))
+    let fits = cells-fit form before (numbersOf (doses (bookOf s))) (omega arith) in
+    (k .1, rw (k .0) (doses-put form (bookOf s) before fits))

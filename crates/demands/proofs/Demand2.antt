@@ -56,7 +56,8 @@ module _ (edition : Edition) (s : List ℕ) where
   abbrev Weighed : ℕ → ℕ → Type 0
   Weighed room start =
       LawfulBook (edition .known) (bookIn s (sectionAt s start))
-      × ((hasBatch edition ≡ true → NumberIs s (sectionAt s start) batchTag (sumOf (doses (bookIn s (sectionAt s start)))))
+      × ((hasBatch edition ≡ true
+      → NumberIs s (sectionAt s start) batchTag (sumOf (doses (bookIn s (sectionAt s start)))))
       × (needed (bookOf s) ≤ room))
 
   -- 14 to 18

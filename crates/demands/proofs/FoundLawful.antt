@@ -1,5 +1,6 @@
 -- What is asked of the record that a look-up by tag finds, as a rule for every record that has the tag: record-iff,
--- found-iff; the record with a type too: typed-found; its number: number-iff; its count: count-iff, counted-iff, below-count-iff, same-count-iff.
+-- found-iff; the record with a type too: typed-found; its number: number-iff; its count: count-iff, counted-iff,
+-- below-count-iff, same-count-iff.
 use Prim.Native.Nat.{ℕ, _<_}
 use mathlib.Core.Path.{_≡_, refl, sym, ap, subst, _∙_}
 use mathlib.Core.Logic.{_↔_, Iff·rfl, _≢_, _⊎_, inl, inr, ⊎-elim}
@@ -61,7 +62,8 @@ module _ (s : List ℕ) (section : Section) (apart : Apart s section) (tag : ℕ
       → findIn s section tag ty ≡ At (entryAt s section i)
   typed-found ty i l t q =
       let n = section .nindex in
-      let f = record-found s section tag ty n 0 i (omega arith) (omega arith) (true-for tag ty (recordAt s section i) t q) in
+      let both = true-for tag ty (recordAt s section i) t q in
+      let f = record-found s section tag ty n 0 i (omega arith) (omega arith) both in
       let g = found-record s section tag ty n 0 (f .0) (f .1) in
       let w = for-true tag ty (recordAt s section (g .0)) (g .3) in
       let e = same-record s section tag apart (g .0) i (omega arith) l (w .0 ∙ sym t) in

@@ -1,5 +1,6 @@
 -- Tags that the lines require are present: size-there, states-there, batch-there; those of check 18 are strings:
--- text-lines. Checks 16 and 23, of the numbers that tags hold, pass exactly as the rules say: size-lawful, batch-lawful.
+-- text-lines. Checks 16 and 23, of the numbers that tags hold, pass exactly as the rules say: size-lawful,
+-- batch-lawful.
 use Prim.Native.Nat.{ℕ, _+_, _-_, _≤_, _<_}
 use mathlib.Core.Path.{_≡_, refl, sym, ap, _∙_}
 use mathlib.Core.Logic.{_↔_, Iff·rfl}
@@ -23,7 +24,8 @@ use Rattle.catalogue.specs.Catalogue.{signatureLines, headerLines, catalogue, l
 use Rattle.rules.specs.Rules.{sizeTagCheck}
 use Rattle.reading.specs.Editions.{Edition, batchTag, batchLine, hasBatch}
 use Rattle.reading.specs.Reading.{weightIn, sumCheck}
-use Rattle.demands.specs.Lawful.{HasTag, WhereTagged, HasCount, NumberIs, LawfulStructure, LawfulLine, LawfulLines}
+use Rattle.demands.specs.Lawful.{HasTag, WhereTagged, HasCount, NumberIs}
+use Rattle.demands.specs.Lawful.{LawfulStructure, LawfulLine, LawfulLines}
 use Rattle.demands.proofs.PassIff.{last-iff, eqb-iff, cond-iff}
 use Rattle.demands.proofs.FoundLawful.{Apart, number-iff, typed-found}
 use Rattle.demands.proofs.StructureLawful.{entry-sound}
@@ -49,7 +51,8 @@ abbrev pub BatchLine : List ℕ → Section → Type 0
 BatchLine s header = HasTag s header batchTag × WhereTagged s header batchTag (λ (e : IndexRecord). e .ty ≡ 4)
 
 -- by their numbers in the catalogue
-module _ (edition : Edition) (s : List ℕ) (signature header : Section) (lines : LawfulLines edition s signature header) where
+module _ (edition : Edition) (s : List ℕ) (signature header : Section)
+    (lines : LawfulLines edition s signature header) where
   pub size-there : Keeps edition → HasTag s signature 1000
   unfolding lineAt catalogue signatureLines headerLines
   size-there keeps = lines .0 3 (omega arith) (keeps (lineAt 3) refl) .required (omega arith)

@@ -6,7 +6,7 @@ use mathlib.Core.List.{List, [], _∷_, _++_, append-assoc}
 use mathlib.Core.Bool.{Bool, true, false}
 use lib.Dec.{eqb, leb}
 use lib.ListN.{length, getD, take, drop, length-append, length-drop, List·getD-append}
-use lib.Seq.{length-take-le, take-suc, take-add, drop-drop, drop-at, getD-take, getD-drop, getD-append-seam, append-snoc}
+use lib.Seq.{length-take-le, take-suc, take-add, drop-drop, drop-at, getD-take, getD-drop, getD-append-seam}
 use native.Mathlib.Omega.{arith}
 use borrow.Author.Tests.{eqb-true, eqb-false, leb-true, leb-false}
 use Rattle.strings.specs.declared.Ending.the-variants.{Ends}
@@ -192,12 +192,13 @@ module _ (s : List ℕ) where
         λ d. go (d .texts) (d .number) (d .bytes) (d .each),
       )
         where
-          go : (texts : List (List ℕ)) → length texts ≡ suc count → take (length (inRow texts)) (drop at s) ≡ inRow texts
-              → Each texts Directory → SlashEnds s (n + n′) at
+          go : (texts : List (List ℕ)) → length texts ≡ suc count
+              → take (length (inRow texts)) (drop at s) ≡ inRow texts → Each texts Directory → SlashEnds s (n + n′) at
           go [] number bytes each = absurd (omega arith)
           go (text ∷ rest) number bytes each =
+              let behind = rest-bytes text rest (each .0) bytes in
               slashes text rest (each .0) bytes
-              (f .1 (record { texts = rest; number = omega arith; bytes = rest-bytes text rest (each .0) bytes; each = each .1 }))
+              (f .1 (record { texts = rest; number = omega arith; bytes = behind; each = each .1 }))
 
   no-rows : (n at : ℕ) → n ≡ 0 → SlashEnds s n at ↔ Directories s at 0
   unfolding inRow
@@ -212,7 +213,8 @@ module _ (s : List ℕ) where
 
   -- the first of some strings, then the rest
   rows-step : (count n at : ℕ) → stringsFrom s n at (suc count) ≡ Ends (at + n) → at + n ≤ length s
-      → ((n at : ℕ) → stringsFrom s n at count ≡ Ends (at + n) → at + n ≤ length s → SlashEnds s n at ↔ Directories s at count)
+      → ((n at : ℕ) → stringsFrom s n at count ≡ Ends (at + n) → at + n ≤ length s
+      → SlashEnds s n at ↔ Directories s at count)
       → SlashEnds s n at ↔ Directories s at (suc count)
   rows-step count n at h fits rest =
       let c = split s n at 1 count (suc count) (at + n) (omega arith) h in

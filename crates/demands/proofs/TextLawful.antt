@@ -118,7 +118,8 @@ nonzero (b ∷ rest) = not (eqb b 0) && nonzero rest
 whole : (text : List ℕ) → nonzero text ≡ true → Whole text
 unfolding nonzero
 whole [] h i l = absurd (omega arith)
-whole (b ∷ rest) h zero l = λ e. not-iff (eqb b 0) .0 (and-eq-true-iff (not (eqb b 0)) (nonzero rest) .0 h .0) (eq-eqb b 0 e)
+whole (b ∷ rest) h zero l =
+    λ e. not-iff (eqb b 0) .0 (and-eq-true-iff (not (eqb b 0)) (nonzero rest) .0 h .0) (eq-eqb b 0 e)
 whole (b ∷ rest) h (suc i) l = whole rest (and-eq-true-iff (not (eqb b 0)) (nonzero rest) .0 h .1) i (omega arith)
 
 module _ (s : List ℕ) (start : ℕ) (lawful : LawfulStructure s start) where

@@ -88,7 +88,8 @@ pub record LawfulLine (s : List ℕ) (section : Section) (line : Line) : Type 0 
 abbrev pub LawfulLines : Edition → List ℕ → Section → Section → Type 0
 LawfulLines edition s signature header =
     ((i : ℕ) → i < signatureCount → (edition .hasLine) (lineAt i) ≡ true → LawfulLine s signature (lineAt i))
-    × ((i : ℕ) → signatureCount ≤ i → i < lineCount → (edition .hasLine) (lineAt i) ≡ true → LawfulLine s header (lineAt i))
+    × ((i : ℕ) → signatureCount ≤ i → i < lineCount → (edition .hasLine) (lineAt i) ≡ true
+    → LawfulLine s header (lineAt i))
 
 -- "Groups": one tag needs another
 abbrev pub Needs : List ℕ → Section → ℕ → ℕ → Type 0
@@ -166,7 +167,8 @@ pub record LawfulTexts (s : List ℕ) (header : Section) : Type 0 where
       (λ (e : IndexRecord). (k : ℕ) → k < e .count
       → WhereTagged s header 1118 (λ (d : IndexRecord). be32At s (inFile header (e .offset) + 4 * k) < d .count))
   -- each string of 1118 ends with "/"
-  pub directories : WhereTagged s header 1118 (λ (e : IndexRecord). Directories s (inFile header (e .offset)) (e .count))
+  pub directories : WhereTagged s header 1118
+      (λ (e : IndexRecord). Directories s (inFile header (e .offset)) (e .count))
 
 -- "Book": at most 4,096 bytes, which are a row of lawful records
 pub record LawfulBook (known : ℕ → Bool) (b : List ℕ) : Type 0 where

@@ -2,7 +2,6 @@
 use Prim.Native.Nat.{ℕ}
 use mathlib.Core.List.{List, []}
 use lib.ListN.{take, drop}
-use Rattle.format.specs.declared.places.Section.{Section}
 use Rattle.format.specs.declared.verdict.Verdict.{Verdict}
 use Rattle.format.specs.declared.verdict.Verdict.the-variants.{Pass, Fail}
 use Rattle.format.specs.declared.verdict.Answer.{Answer}
@@ -10,7 +9,7 @@ use Rattle.format.specs.declared.verdict.Answer.the-variants as answer
 use Rattle.index.specs.declared.Entry.{Entry}
 use Rattle.index.specs.declared.Found.{Found}
 use Rattle.index.specs.declared.Found.the-variants.{At, Nothing}
-use Rattle.index.specs.Lookup.{findIn, foundBytes}
+use Rattle.index.specs.Lookup.{findIn}
 use Rattle.lookups.specs.declared.Sought.{Sought}
 use Rattle.lookups.specs.declared.Sought.the-variants.{Here, Refused}
 use Rattle.package.specs.Package.{soundCheck, structureOf}
@@ -39,10 +38,6 @@ soughtAnswer (Refused number place) = answer.Refused number place
 
 abbrev pub findBytes : List ℕ → ℕ → ℕ → ℕ → List ℕ
 findBytes s which tag ty = soughtBytes s (sought s which tag ty)
-
--- the bytes that a structure of an opened package holds under a tag and a type
-abbrev pub bytesIn : List ℕ → Section → ℕ → ℕ → List ℕ
-bytesIn s section tag ty = foundBytes s (findIn s section tag ty)
 
 abbrev pub findAnswer : List ℕ → ℕ → ℕ → ℕ → Answer
 findAnswer s which tag ty = soughtAnswer (sought s which tag ty)

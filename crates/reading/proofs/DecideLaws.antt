@@ -39,7 +39,8 @@ sound-as : (v : Verdict) (a b : Section) {signature header : Section} → opened
 sound-as Pass a b h = (refl, cc, cc)
 sound-as (Fail number place) a b h = let z : _≡_ {A = ℕ} 0 1 = cc in absurd (omega arith)
 
-unsound-as : (v : Verdict) (a b : Section) {number place : ℕ} → openedAs v a b ≡ Unsound number place → v ≡ Fail number place
+unsound-as : (v : Verdict) (a b : Section) {number place : ℕ} → openedAs v a b ≡ Unsound number place
+    → v ≡ Fail number place
 unsound-as Pass a b h = let z : _≡_ {A = ℕ} 0 1 = cc in absurd (omega arith)
 unsound-as (Fail number place) a b h = cc
 
@@ -104,7 +105,8 @@ put-none Numbers b before h = rw (no-dose (doses b) h)
 put-none Bytes b before h = rw (no-dose (doses b) h)
 
 -- the answer and the buffer: w is what was decided
-module _ (form : Form) (edition : ℕ) (s before : List ℕ) {w : Weighing} (p : w ≡ decided edition s (roomIn form before)) where
+module _ (form : Form) (edition : ℕ) (s before : List ℕ) {w : Weighing}
+    (p : w ≡ decided edition s (roomIn form before)) where
   abbrev room : ℕ
   room = roomIn form before
 

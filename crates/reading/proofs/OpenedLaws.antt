@@ -18,7 +18,7 @@ use Rattle.format.proofs.VerdictLaws.{both-pass, both-fail}
 use Rattle.catalogue.specs.declared.Line.{Line}
 use Rattle.catalogue.specs.Catalogue.{inEdition, lineAt}
 use Rattle.catalogue.specs.Words.{int32}
-use Rattle.lookups.specs.Lookup.{bytesIn}
+use Rattle.lookups.specs.Within.{bytesIn}
 use Rattle.package.specs.declared.Opened.{Opened}
 use Rattle.package.specs.declared.Opened.the-variants.{Sound, Unsound}
 use Rattle.rules.specs.Rules.{rulesCheck}
@@ -34,7 +34,8 @@ use Rattle.reading.specs.Weighings.{openedBook, weighingAs}
 
 -- the book of a package as it was opened
 module _ (s : List ℕ) {f : Opened} where
-  pub book-here : {signature header : Section} {l : List ℕ} → f ≡ Sound signature header → l ≡ bookIn s header → l ≡ openedBook s f
+  pub book-here : {signature header : Section} {l : List ℕ} → f ≡ Sound signature header → l ≡ bookIn s header
+      → l ≡ openedBook s f
   book-here h k = k ∙ ap (openedBook s) (sym h)
 
   pub no-book : {number place : ℕ} → f ≡ Unsound number place → [] ≡ openedBook s f

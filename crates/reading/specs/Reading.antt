@@ -12,7 +12,7 @@ use Rattle.format.specs.declared.verdict.Answer.{Answer}
 use Rattle.format.specs.declared.verdict.Answer.the-variants.{Done, Refused}
 use Rattle.format.specs.Verdicts.{check, both}
 use Rattle.package.specs.Package.{soundCheck, signatureAt, headerAt}
-use Rattle.lookups.specs.Lookup.{bytesIn}
+use Rattle.lookups.specs.Within.{bytesIn}
 use Rattle.catalogue.specs.Words.{int32, bin}
 use Rattle.rules.specs.Rules.{rulesCheck}
 use Rattle.book.specs.Book.{bookTag, bookCheck}
