@@ -1,5 +1,5 @@
 -- An element that is a string: it starts where the strings before it end (strings-before), and is a single string
--- (string-single).
+-- (string-single): its text, and its zero byte (string-split).
 use Prim.Native.Nat.{ℕ, suc, _+_, _-_, _≤_, _<_}
 use mathlib.Core.Path.{_≡_}
 use mathlib.Core.List.{List, [], _∷_, _++_}
@@ -51,6 +51,11 @@ module _ (s : List ℕ) (entry : Entry) (k : ℕ) (p : elementSize (entry .ty) �
   unfolding elementOf
   string-bytes m m′ h q = rw (p, h, q)
 
+  string-extent : (m m′ : ℕ) → stringsFrom s (entry .extent) (entry .at .0) k ≡ Ends m
+      → stringsFrom s (entry .at .0 + entry .extent - m) m 1 ≡ Ends m′ → m′ - m ≡ elementOf s entry k .extent
+  unfolding elementOf
+  string-extent m m′ h q = rw (p, h, q)
+
   module _ (l : k < entry .count)
       (h : stringsFrom s (entry .extent) (entry .at .0) (entry .count) ≡ Ends (entry .at .0 + entry .extent)) where
     pub strings-before :
@@ -64,3 +69,14 @@ module _ (s : List ℕ) (entry : Entry) (k : ℕ) (p : elementSize (entry .ty) �
         let r = string-at s (entry .extent) (entry .at .0) k (entry .count) _ l h in
         let b = bound s (entry .extent) (entry .at .0) (k + 1) (r .1) (r .3) in
         rw (← string-bytes (r .0) (r .1) (r .2) (r .4)) (single-string s _ (r .0) (r .1) (r .4) (omega arith))
+
+    -- its text, and its zero byte
+    pub string-split : entry .at .0 + entry .extent ≤ length s
+        → entryBytes s (elementOf s entry k)
+        ≡ take (elementOf s entry k .extent - 1) (drop (elementOf s entry k .at .0) s) ++ (0 ∷ [])
+    string-split fits =
+        let r = string-at s (entry .extent) (entry .at .0) k (entry .count) _ l h in
+        let b = bound s (entry .extent) (entry .at .0) (k + 1) (r .1) (r .3) in
+        let w : r .1 - r .0 - 1 ≡ r .1 - 1 - r .0 = omega arith in
+        rw (← string-starts (r .0) (r .2), ← string-extent (r .0) (r .1) (r .2) (r .4), w)
+        (single-split s _ (r .0) (r .1) (r .4) (omega arith))

@@ -54,7 +54,7 @@ module _ (s : List ℕ) (h : soundCheck s ≡ Pass) where
       → SoundEntry s (sectionEnd (structureOf s which)) (entryAt s (structureOf s which) k)
   entry-sound which k l = record-sound s _ (structureOf s which) k (omega arith) (record-passed which k l)
 
-sought-here : (v : Verdict) (found : Found) (entry : Entry) → soughtAs v found ≡ Here entry
+pub sought-here : (v : Verdict) (found : Found) (entry : Entry) → soughtAs v found ≡ Here entry
     → (v ≡ Pass) × (found ≡ At entry)
 sought-here Pass (At found) entry h = let e : found ≡ entry = cc in (refl, ap At e)
 sought-here Pass Nothing entry h = let z : _≡_ {A = ℕ} 0 1 = cc in absurd (omega arith)

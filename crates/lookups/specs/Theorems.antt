@@ -1,6 +1,6 @@
 -- Document 01, "Numbers the station shows": what look-ups promise, as statements over the
 -- definitions of this crate. Each is proved in proofs/ under its name in small letters: LookupExact as lookup-exact.
-use Prim.Native.Nat.{ℕ, _+_, _-_, _*_, _≤_, _<_}
+use Prim.Native.Nat.{ℕ, _+_, _*_, _≤_, _<_}
 use mathlib.Core.Path.{_≡_}
 use mathlib.Core.Logic.{_↔_, _≢_}
 use mathlib.Core.List.{List, []}

@@ -1,1 +1,3 @@
 pub mod VersionLaws
+pub mod MatchLaws
+pub mod VersionTheorems

@@ -9,11 +9,11 @@ ghost use Rattle.entries.specs.declared.types.ElementSize.the-variants.{ToZero}
 ghost use Rattle.entries.specs.Types.{elementSize};
 ghost use Rattle.package.specs.Package.{soundCheck, headerAt};
 ghost use Rattle.required.specs.Version.{versionFrom, versionIn, soughtVersion, requiredVersion};
+use elements::element;
 use format::Section;
 use index::Entry;
 use index::Found;
 use lookups::Sought;
-use elements::element;
 use lookups::shown;
 use package::Opened;
 use package::open;

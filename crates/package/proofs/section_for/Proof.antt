@@ -1,6 +1,5 @@
 -- By the number. Assumes nothing.
 use Rattle.package.proofs.OpenLaws as laws
-use borrow.Author.Needs.{needs}
 use Rattle.package.proofs.section_for.Statement.{statement}
 use Rattle.package.proofs.section_for.Tie as tie
 
