@@ -1,4 +1,4 @@
--- Laws of `findFrom` and `taggedFrom`, one for each way through a turn of the search.
+-- Laws of `findFrom`, one for each way through a turn of the search.
 use Prim.Native.Nat.{ℕ, suc, _+_, _-_, _≤_, _<_}
 use mathlib.Core.Path.{_≡_, refl, sym, ap, _∙_}
 use mathlib.Core.List.{List}
@@ -20,7 +20,7 @@ use Rattle.index.specs.declared.Found.the-variants.{At, Nothing}
 use Rattle.index.specs.declared.Tagged.{Tagged}
 use Rattle.index.specs.declared.Tagged.the-variants.{Present, Absent}
 use Rattle.entries.specs.Entries.{recordAt, dataEnd}
-use Rattle.index.specs.Lookup.{extentTo, entryOf, entryAt, isFor, findFrom, taggedFrom, taggedIn, entryFor}
+use Rattle.index.specs.Lookup.{extentTo, entryOf, entryAt, isFor, findFrom}
 
 pub extent-ends : (from : ℕ) {end : Ending} {to : ℕ} → end ≡ Ends to → from ≤ to → to - from ≡ extentTo from end
 extent-ends from h l = rw h
@@ -81,39 +81,3 @@ pub spent : (s : List ℕ) (section : Section) (tag ty n i : ℕ) {v : Found} �
     → Nothing ≡ v
 spent s section tag ty n i inv l = none s section tag ty (n - i) i (omega arith) ∙ sym inv
 
--- the search by tag alone
-module _ (s : List ℕ) (section : Section) (tag : ℕ) where
-  tagged-step : (n i : ℕ) → taggedFrom s section (suc n) i tag
-      ≡ cond (eqb (be32At s (recordPlace section i)) tag) (Present (recordAt s section i)) (taggedFrom s section n (i + 1) tag)
-  unfolding taggedFrom
-  tagged-step n i = refl
-
-  tagged-unrolled : (n i : ℕ) → i < n → taggedFrom s section (n - i) i tag
-      ≡ cond (eqb (be32At s (recordPlace section i)) tag) (Present (recordAt s section i)) (taggedFrom s section (n - (i + 1)) (i + 1) tag)
-  tagged-unrolled n i l =
-      let k : n - i ≡ suc (n - (i + 1)) = omega arith in
-      rw k (tagged-step (n - (i + 1)) i)
-
-  module _ (n i : ℕ) {v : Tagged} (inv : v ≡ taggedFrom s section (n - i) i tag) where
-    pub tagged-turn : {r : ℕ} → r ≡ be32At s (recordPlace section i) → (r ≡ tag → ⊥) → i < n
-        → v ≡ taggedFrom s section (n - (i + 1)) (i + 1) tag
-    tagged-turn q h l = inv ∙ tagged-unrolled n i l ∙ rw (ne-eqb (be32At s (recordPlace section i)) tag (λ e. h (q ∙ e)))
-
-    pub tagged-ends : {place r : ℕ} {e : IndexRecord} → r ≡ be32At s (recordPlace section i) → r ≡ tag → i < n
-        → place ≡ recordPlace section i → e ≡ indexRecordAt s place → Present e ≡ v
-    tagged-ends q h l p g =
-        ap Present (g ∙ ap (indexRecordAt s) p)
-        ∙ sym (inv ∙ tagged-unrolled n i l ∙ rw (eq-eqb (be32At s (recordPlace section i)) tag (sym q ∙ h)))
-
-    pub tagged-spent : n ≤ i → Absent ≡ v
-    unfolding taggedFrom
-    tagged-spent l = let k : n - i ≡ 0 = omega arith in sym (rw k at inv)
-
--- the entry of the record that was found
-module _ (s : List ℕ) (section : Section) (tag : ℕ) {r : Tagged} (p : r ≡ taggedIn s section tag) where
-  pub entry-present : {e : IndexRecord} {end : Ending} {entry : Entry} → r ≡ Present e → end ≡ dataEnd s section e
-      → entry ≡ entryOf section e end → At entry ≡ entryFor s section (taggedIn s section tag)
-  entry-present h g q = rw (sym p ∙ h) (ap At (rw g at q))
-
-  pub entry-absent : r ≡ Absent → Nothing ≡ entryFor s section (taggedIn s section tag)
-  entry-absent h = rw (sym p ∙ h)

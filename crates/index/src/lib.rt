@@ -1,6 +1,6 @@
 // The entry with a tag and a type.
 ghost use mathlib.Core.Path.{_≡_};
-ghost use Rattle.index.specs.Lookup.{extentTo, entryOf, findIn, taggedIn, entryFor};
+ghost use Rattle.index.specs.Lookup.{extentTo, entryOf, findIn};
 use entries::data_end;
 use entries::tag_at;
 use format::FileOffset;
@@ -72,34 +72,4 @@ pub fn find(s: &[u8], section: Section, tag: u32, ty: u32) -> Found
         }
     }
     Found::Nothing
-}
-
-// The first index record of a structure that has the tag.
-pub fn find_tag(s: &[u8], section: Section, tag: u32) -> Tagged
-    ensures { λ r. ⌜ r ≡ taggedIn (now (s .entry)) section tag ⌝ }
-{
-    let n = section.nindex;
-    let mut i = 0;
-    while i < n {
-        if tag_at(s, section, n, i) == tag {
-            let place = section.index_record(i);
-            return Tagged::Present(IndexRecord::at(s, place));
-        }
-        i += 1;
-    }
-    Tagged::Absent
-}
-
-// The entry of a structure that has the tag.
-pub fn find_entry(s: &[u8], section: Section, tag: u32) -> Found
-    ensures { λ r. ⌜ r ≡ entryFor (now (s .entry)) section (taggedIn (now (s .entry)) section tag) ⌝ }
-{
-    let found = find_tag(s, section, tag);
-    match found {
-        Tagged::Present(e) => {
-            let end = data_end(s, section, e);
-            Found::At(entry_of(section, e, end))
-        }
-        Tagged::Absent => Found::Nothing,
-    }
 }
