@@ -9,7 +9,7 @@ pub struct Input {
 }
 
 // Reads standard input to the front of `room`, up to its end, a read that fails, or as much as `room` holds.
-pub(crate) fn read(room: &mut [u8]) -> Input
+pub fn read(room: &mut [u8]) -> Input
     ensures { λ r. ⌜ Counts (r .count) (now (room .exit)) ⌝ }
 {
     let mut done = 0;
