@@ -1,8 +1,9 @@
 -- Laws of one index record's rules, for each way through the functions that test them.
 use Prim.Native.Nat.{ℕ, suc, _+_, _-_, _*_, _%_, _≤_, _<_, _^_}
 use mathlib.Core.Path.{_≡_, refl, sym, ap, _∙_}
-use mathlib.Core.List.{List}
+use mathlib.Core.List.{List, []}
 use mathlib.Core.Bool.{Bool, true, false, not, _||_}
+use lib.ListN.{getD}
 use lib.Dec.{eqb, leb}
 use native.Mathlib.Omega.{arith}
 use native.Mathlib.Nat.{mul-le-mul-right}
@@ -17,7 +18,11 @@ use Rattle.format.specs.Places.{recordPlace, inFile, sectionEnd}
 use Rattle.entries.specs.declared.types.ElementSize.{ElementSize}
 use Rattle.entries.specs.declared.types.ElementSize.the-variants.{Bytes, ToZero, Unlawful}
 use Rattle.entries.specs.Types.{elementSize, isLawful}
-use Rattle.entries.specs.Entries.{countRight, alignedTo, dataEnd, tagBefore}
+use Rattle.format.specs.declared.verdict.Verdict.{Verdict}
+use Rattle.format.specs.declared.verdict.Verdict.the-variants.{Pass}
+use Rattle.format.specs.Verdicts.{check, both}
+use Rattle.entries.specs.Entries.{typeLawful, countRight, alignedTo, isAligned, endFor, dataEnd, tagBefore}
+use Rattle.entries.specs.Entries.{dataCheck, entryCheck}
 use Rattle.entries.proofs.TypeLaws.{bytes-small}
 
 pub count-six : (e : IndexRecord) → e .ty ≡ 6 → eqb (e .count) 1 ≡ countRight e
@@ -71,6 +76,10 @@ step : (s : List ℕ) (section : Section) (tag k : ℕ)
 unfolding tagBefore
 step s section tag k = refl
 
+low-byte : (s : List ℕ) (at tag : ℕ) → be32At s at ≡ tag → getD s (at + 3) 0 < 256 → getD s (at + 3) 0 ≡ tag % 256
+unfolding be32At
+low-byte s at tag q b = omega arith
+
 module _ (s : List ℕ) (section : Section) (tag k : ℕ) {v : Bool} (inv : v ≡ tagBefore s section k tag) where
   pub turn : {r : ℕ} → r ≡ be32At s (recordPlace section (k - 1)) → (r ≡ tag → ⊥) → 0 < k
       → v ≡ tagBefore s section (k - 1) tag
@@ -84,6 +93,24 @@ module _ (s : List ℕ) (section : Section) (tag k : ℕ) {v : Bool} (inv : v �
       let j : k ≡ suc (k - 1) = omega arith in
       let f = eq-eqb (be32At s (recordPlace section (k - 1))) tag (sym e ∙ h) in
       sym (inv ∙ ap (λ (n : ℕ). tagBefore s section n tag) j ∙ step s section tag (k - 1) ∙ rw f)
+
+  -- the record's tag, read at its place
+  module _ {at r : ℕ} (d : at ≡ recordPlace section (k - 1))
+      (p : r ≡ getD s at 0 * 16777216 + getD s (at + 1) 0 * 65536 + getD s (at + 2) 0 * 256 + getD s (at + 3) 0) where
+    read : r ≡ be32At s (recordPlace section (k - 1))
+    unfolding be32At
+    read = placed s p d
+
+    pub turn-read : (r ≡ tag → ⊥) → 0 < k → v ≡ tagBefore s section (k - 1) tag
+    turn-read h l = turn read h l
+
+    pub ends-read : r ≡ tag → 0 < k → true ≡ v
+    ends-read h l = ends read h l
+
+  -- the last byte of the tag differs
+  pub turn-low : {at low : ℕ} → at ≡ recordPlace section (k - 1) → low ≡ tag % 256 → getD s (at + 3) 0 < 256
+      → (getD s (at + 3) 0 ≡ low → ⊥) → 0 < k → v ≡ tagBefore s section (k - 1) tag
+  turn-low {at} e m b h l = turn (ap (be32At s) e) (λ q. h (low-byte s at tag q b ∙ sym m)) l
 
   pub spent : k ≤ 0 → false ≡ v
   unfolding tagBefore
@@ -106,13 +133,19 @@ module _ (e : IndexRecord) {n : ℕ} (q : Bytes n ≡ elementSize (e .ty)) where
   pub fixed-product : e .count < 2 ^ 32 → n * e .count < 2 ^ 34
   fixed-product k = let m = bytes-small (e .ty) n (sym q) in omega (arith, mul-le-mul-right (e .count) (m .1))
 
-  pub fixed-inside : (s : List ℕ) (section : Section) → e .offset .0 + n * e .count ≤ section .hsize
-      → isEnded (dataEnd s section e) ≡ true
-  fixed-inside s section l = rw (← end-fits s section e refl (sym q) refl l)
+  pub fixed-inside : (section : Section) → e .offset .0 + n * e .count ≤ section .hsize
+      → isEnded (endFor (Bytes n) [] section e) ≡ true
+  fixed-inside section l = rw (le-leb (e .offset .0 + n * e .count) (section .hsize) l)
 
-  pub fixed-outside : (s : List ℕ) (section : Section) → section .hsize < e .offset .0 + n * e .count
-      → isEnded (dataEnd s section e) ≡ false
-  fixed-outside s section l = rw (← end-past s section e refl (sym q) l)
+  pub fixed-outside : (section : Section) → section .hsize < e .offset .0 + n * e .count
+      → isEnded (endFor (Bytes n) [] section e) ≡ false
+  fixed-outside section l = rw (lt-leb (e .offset .0 + n * e .count) (section .hsize) l)
+
+  -- the end of fixed data does not depend on the bytes
+  pub fixed-data : (s : List ℕ) (section : Section) (place : ℕ) {v : Verdict} → v ≡ dataCheck place e (endFor (Bytes n) [] section e)
+      → v ≡ dataCheck place e (dataEnd s section e)
+  unfolding dataEnd
+  fixed-data s section place h = rw (← q) h
 
 pub ruleset fixed = (fixed-lawful, fixed-aligned, fixed-astray, fixed-inside, fixed-outside)
 
@@ -142,3 +175,21 @@ unlawful e q h = rw (← q, h)
 -- the size that was found is the type's
 pub sized : (ty : ℕ) {k size : ElementSize} → k ≡ elementSize ty → k ≡ size → size ≡ elementSize ty
 sized ty q h = sym h ∙ q
+
+-- 9 to 13 are 9 to 12, then 13
+chain : (a b c d : Bool) (place : ℕ) (rest : Verdict)
+    → check a 9 place (check b 10 place (check c 11 place (check d 12 place rest)))
+    ≡ both (check a 9 place (check b 10 place (check c 11 place (check d 12 place Pass)))) rest
+unfolding check both
+chain false b c d place rest = refl
+chain true false c d place rest = refl
+chain true true false d place rest = refl
+chain true true true false place rest = refl
+chain true true true true place rest = refl
+
+pub entry-as : (s : List ℕ) (section : Section) (i place : ℕ) (e : IndexRecord) (end : Ending)
+    → entryCheck s section i place e end
+    ≡ both (dataCheck place e end) (check (not (tagBefore s section i (e .tag))) 13 place Pass)
+unfolding entryCheck dataCheck
+entry-as s section i place e end =
+    chain (typeLawful e) (countRight e) (isAligned e) (isEnded end) place (check (not (tagBefore s section i (e .tag))) 13 place Pass)

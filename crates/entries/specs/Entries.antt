@@ -59,6 +59,15 @@ unfoldable pub tagBefore : List ℕ → Section → ℕ → ℕ → Bool
 tagBefore s section zero tag = false
 tagBefore s section (suc i) tag = eqb (be32At s (recordPlace section i)) tag || tagBefore s section i tag
 
+-- 9 to 12 for an index record that starts at a place, with where its data ends
+unfoldable pub dataCheck : ℕ → IndexRecord → Ending → Verdict
+dataCheck place e end =
+    check (typeLawful e) 9 place
+    (check (countRight e) 10 place
+    (check (isAligned e) 11 place
+    (check (isEnded end) 12 place
+    Pass)))
+
 -- 9 to 13 for index record i, which is e and starts at a place, with where its data ends
 unfoldable pub entryCheck : List ℕ → Section → ℕ → ℕ → IndexRecord → Ending → Verdict
 entryCheck s section i place e end =

@@ -1,10 +1,13 @@
 // One index record: its type, and checks 9 to 13.
 ghost use mathlib.Core.Path.{_≡_};
+ghost use Prim.Native.Nat.{_≤_};
+ghost use mathlib.Core.List.{[]};
+ghost use lib.ListN.{length};
 ghost use Rattle.be.specs.Numbers.{be32At};
 ghost use Rattle.format.specs.Places.{recordPlace};
 ghost use Rattle.entries.specs.declared.types.ElementSize.the-variants.{Bytes, ToZero};
 ghost use Rattle.entries.specs.Types.{elementSize};
-ghost use Rattle.entries.specs.Entries.{countRight, dataEnd, tagBefore, entryCheck};
+ghost use Rattle.entries.specs.Entries.{countRight, endFor, dataEnd, tagBefore, dataCheck, entryCheck};
 
 pub mod types;
 
@@ -66,8 +69,8 @@ pub fn tag_at(s: &[u8], section: Section, n: u32, i: u32) -> u32
     be::be32(s, at)
 }
 
-// Whether one of the first `i` records has the tag (check 13).
-fn tag_before(s: &[u8], section: Section, i: u32, tag: u32) -> bool
+// Whether one of the first `i` records has the tag (check 13), in a slice that may end before them.
+fn tag_before_cut(s: &[u8], section: Section, i: u32, tag: u32) -> bool
     ensures { λ r. ⌜ r ≡ tagBefore (now (s .entry)) section i tag ⌝ }
 {
     let mut k = i;
@@ -80,10 +83,41 @@ fn tag_before(s: &[u8], section: Section, i: u32, tag: u32) -> bool
     false
 }
 
-// Checks 10 to 13 for record `i`, which is `e` and starts at `place`, of elements of `n` bytes each.
-fn fixed_check(s: &[u8], section: Section, i: u32, place: u32, e: IndexRecord, n: usize) -> Verdict
+// The same in a slice that has them. Most tags differ in their last byte.
+fn tag_before_within(s: &[u8], section: Section, i: u32, tag: u32) -> bool
+    requires { ⌜ recordPlace section i ≤ length (now s) ⌝ }
+    ensures { λ r. ⌜ r ≡ tagBefore (now (s .entry)) section i tag ⌝ }
+{
+    let low = (tag % 256) as u8;
+    let mut k = i;
+    while 0 < k {
+        k -= 1;
+        let place = section.index_record(k);
+        let at = place.0;
+        if s[at + 3] == low {
+            if be::join32(s[at], s[at + 1], s[at + 2], s[at + 3]) == tag {
+                return true;
+            }
+        }
+    }
+    false
+}
+
+// Whether one of the first `i` records has the tag (check 13).
+fn tag_before(s: &[u8], section: Section, i: u32, tag: u32) -> bool
+    ensures { λ r. ⌜ r ≡ tagBefore (now (s .entry)) section i tag ⌝ }
+{
+    let end = section.index_record(i);
+    if s.len() < end.0 {
+        return tag_before_cut(s, section, i, tag);
+    }
+    tag_before_within(s, section, i, tag)
+}
+
+// Checks 10 to 12 for a record that is `e` and starts at `place`, of elements of `n` bytes each.
+fn fixed_check(section: Section, place: u32, e: IndexRecord, n: usize) -> Verdict
     requires { ⌜ Bytes n ≡ elementSize (e .ty) ⌝ }
-    ensures { λ r. ⌜ r ≡ entryCheck (now (s .entry)) section i place e (dataEnd (now (s .entry)) section e) ⌝ }
+    ensures { λ r. ⌜ r ≡ dataCheck place e (endFor (Bytes n) [] section e) ⌝ }
 {
     if !count_right(e) {
         return Verdict::Fail(10, place);
@@ -97,16 +131,13 @@ fn fixed_check(s: &[u8], section: Section, i: u32, place: u32, e: IndexRecord, n
     if (section.hsize as usize) < end {
         return Verdict::Fail(12, place);
     }
-    if tag_before(s, section, i, e.tag) {
-        return Verdict::Fail(13, place);
-    }
     Verdict::Pass
 }
 
 // The same for an entry of strings.
-fn strings_check(s: &[u8], section: Section, i: u32, place: u32, e: IndexRecord) -> Verdict
+fn strings_check(s: &[u8], section: Section, place: u32, e: IndexRecord) -> Verdict
     requires { ⌜ ToZero ≡ elementSize (e .ty) ⌝ }
-    ensures { λ r. ⌜ r ≡ entryCheck (now (s .entry)) section i place e (dataEnd (now (s .entry)) section e) ⌝ }
+    ensures { λ r. ⌜ r ≡ dataCheck place e (dataEnd (now (s .entry)) section e) ⌝ }
 {
     if !count_right(e) {
         return Verdict::Fail(10, place);
@@ -117,20 +148,31 @@ fn strings_check(s: &[u8], section: Section, i: u32, place: u32, e: IndexRecord)
     if !strings::ended(end) {
         return Verdict::Fail(12, place);
     }
-    if tag_before(s, section, i, e.tag) {
-        return Verdict::Fail(13, place);
-    }
     Verdict::Pass
+}
+
+// Checks 9 to 12 for a record that is `e` and starts at `place`.
+fn data_check(s: &[u8], section: Section, place: u32, e: IndexRecord) -> Verdict
+    ensures { λ r. ⌜ r ≡ dataCheck place e (dataEnd (now (s .entry)) section e) ⌝ }
+{
+    let size = element_size(e.ty);
+    match size {
+        ElementSize::Bytes(n) => fixed_check(section, place, e, n),
+        ElementSize::ToZero => strings_check(s, section, place, e),
+        ElementSize::Unlawful => Verdict::Fail(9, place),
+    }
 }
 
 // Checks 9 to 13 for record `i`, which is `e` and starts at `place`.
 pub fn entry_check(s: &[u8], section: Section, i: u32, place: u32, e: IndexRecord) -> Verdict
     ensures { λ r. ⌜ r ≡ entryCheck (now (s .entry)) section i place e (dataEnd (now (s .entry)) section e) ⌝ }
 {
-    let size = element_size(e.ty);
-    match size {
-        ElementSize::Bytes(n) => fixed_check(s, section, i, place, e, n),
-        ElementSize::ToZero => strings_check(s, section, i, place, e),
-        ElementSize::Unlawful => Verdict::Fail(9, place),
+    let v = data_check(s, section, place, e);
+    if let Verdict::Fail(number, at) = v {
+        return Verdict::Fail(number, at);
     }
+    if tag_before(s, section, i, e.tag) {
+        return Verdict::Fail(13, place);
+    }
+    Verdict::Pass
 }

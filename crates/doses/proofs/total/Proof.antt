@@ -1,3 +1,4 @@
+-- The sum stays below the bound of the numbers passed. Assumes nothing.
 use Prim.Native.Nat.{_+_}
 -- Each number is below 2^32, and there are few. Assumes nothing.
 use borrow.Author.Needs.{needs}

@@ -1,49 +1,39 @@
--- By the element size. Assumes nothing.
-use Rattle.entries.proofs.EntryLaws as laws
-use Rattle.entries.specs.Entries.{entryCheck}
-use Rattle.format.proofs.VerdictLaws.{stopped}
+-- 9 to 12, then 13. Assumes nothing.
+use Rattle.format.proofs.VerdictLaws.{went, halted, passed, stopped, answers}
+use Rattle.entries.proofs.EntryLaws.{entry-as}
 use borrow.Author.Needs.{needs}
 use Rattle.entries.proofs.entry_check.Statement.{statement}
 use Rattle.entries.proofs.entry_check.Tie as tie
 
-element-size-requires : tie.Need-element-size-requires
-element-size-requires c κs = search needs
+data-check-requires : tie.Need-data-check-requires
+data-check-requires c κs = search needs
 
-enum-known-size : tie.Need-enum-known-size
-enum-known-size c = search needs
+enum-known-v : tie.Need-enum-known-v
+enum-known-v c = search needs
 
-fixed-check-requires : tie.Need-fixed-check-requires
-fixed-check-requires c κs = search laws.sized
+returns : tie.Need-returns
+returns c = rw (entry-as _ _ _ _ _ _) (search (went, halted, passed, stopped, answers) depth 12)
 
 enum-told : tie.Need-enum-told
 enum-told c = search needs
 
-strings-check-requires : tie.Need-strings-check-requires
-strings-check-requires c κs = search laws.sized
-
-enum-told-2 : tie.Need-enum-told-2
-enum-told-2 c = search needs
-
-returns : tie.Need-returns
-returns c = search needs
+tag-before-requires : tie.Need-tag-before-requires
+tag-before-requires c κs = search needs
 
 returns-2 : tie.Need-returns-2
-returns-2 c = search needs
+returns-2 c = rw (entry-as _ _ _ _ _ _) (search (went, halted, passed, stopped, answers) depth 12)
 
 returns-3 : tie.Need-returns-3
-unfolding entryCheck
-returns-3 c = search (stopped, laws.unlawful)
+returns-3 c = rw (entry-as _ _ _ _ _ _) (search (went, halted, passed, stopped, answers) depth 12)
 
 pub entry-check-spec : {M : Type 1} → statement M
 entry-check-spec =
     tie.close
     (tie.spec
-    element-size-requires
-    enum-known-size
-    fixed-check-requires
-    enum-told
-    strings-check-requires
-    enum-told-2
+    data-check-requires
+    enum-known-v
     returns
+    enum-told
+    tag-before-requires
     returns-2
     returns-3)

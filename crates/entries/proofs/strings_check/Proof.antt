@@ -1,6 +1,6 @@
 -- A rung for each rule, in order. Assumes nothing.
 use Rattle.entries.proofs.EntryLaws as laws
-use Rattle.entries.specs.Entries.{entryCheck}
+use Rattle.entries.specs.Entries.{dataCheck}
 use Rattle.format.proofs.VerdictLaws.{passed, stopped, answers}
 use borrow.Author.Needs.{needs}
 use Rattle.entries.proofs.strings_check.Statement.{statement}
@@ -10,7 +10,7 @@ count-right-requires : tie.Need-count-right-requires
 count-right-requires c κs = search needs
 
 returns : tie.Need-returns
-unfolding entryCheck
+unfolding dataCheck
 returns c = search (passed, stopped, answers, laws.strings) depth 14
 
 in-file-requires : tie.Need-in-file-requires
@@ -26,19 +26,12 @@ ended-requires : tie.Need-ended-requires
 ended-requires c κs = search needs
 
 returns-2 : tie.Need-returns-2
-unfolding entryCheck
+unfolding dataCheck
 returns-2 c = search (passed, stopped, answers, laws.strings) depth 14
 
-tag-before-requires : tie.Need-tag-before-requires
-tag-before-requires c κs = search needs
-
 returns-3 : tie.Need-returns-3
-unfolding entryCheck
+unfolding dataCheck
 returns-3 c = search (passed, stopped, answers, laws.strings) depth 14
-
-returns-4 : tie.Need-returns-4
-unfolding entryCheck
-returns-4 c = search (passed, stopped, answers, laws.strings) depth 14
 
 pub strings-check-spec : {M : Type 1} → statement M
 strings-check-spec =
@@ -51,6 +44,4 @@ strings-check-spec =
     strings-end-requires
     ended-requires
     returns-2
-    tag-before-requires
-    returns-3
-    returns-4)
+    returns-3)

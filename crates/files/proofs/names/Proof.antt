@@ -1,3 +1,4 @@
+-- By whether the old form is present. Assumes nothing.
 use borrow.Author.Needs.{needs}
 use Rattle.format.proofs.VerdictLaws.{passed, stopped}
 use Rattle.files.specs.Files.{namesCheck}

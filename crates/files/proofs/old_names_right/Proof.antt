@@ -1,3 +1,4 @@
+-- A test for each rule, in order. Assumes nothing.
 use mathlib.Core.Path.{sym}
 use borrow.Author.Needs.{needs}
 use Rattle.format.proofs.VerdictLaws.{answers}

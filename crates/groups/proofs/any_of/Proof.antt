@@ -1,3 +1,4 @@
+-- By the first of the three that is present. Assumes nothing.
 use mathlib.Core.Path.{sym}
 use borrow.Author.Needs.{needs}
 use Rattle.tags.proofs.TestLaws.{made}

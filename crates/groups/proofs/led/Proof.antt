@@ -1,3 +1,4 @@
+-- By whether one of the three is present. Assumes nothing.
 use borrow.Author.Needs.{needs}
 use Rattle.groups.specs.Groups.{ledCheck}
 use Rattle.tags.proofs.TestLaws.{first-of, second-of, yes, no}

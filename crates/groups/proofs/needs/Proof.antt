@@ -1,3 +1,4 @@
+-- By whether the tag is present. Assumes nothing.
 use borrow.Author.Needs.{needs}
 use Rattle.format.proofs.VerdictLaws.{passed, stopped, answers}
 use Rattle.groups.specs.Groups.{needsCheck}

@@ -1,3 +1,4 @@
+-- A rung for each rule, in order. Assumes nothing.
 use borrow.Author.Needs.{needs}
 use Rattle.format.proofs.VerdictLaws.{passed, stopped, answers}
 use Rattle.groups.specs.Groups.{wholeCheck}

@@ -1,3 +1,4 @@
+-- By whether the tag is shown. Assumes nothing.
 use borrow.Author.Needs.{needs}
 use Rattle.tags.specs.Tables.{shownBy}
 use Rattle.format.proofs.VerdictLaws.{passed, stopped, answers}

@@ -1,3 +1,4 @@
+-- By whether the edition has the line. Assumes nothing.
 use borrow.Author.Needs.{needs}
 use Rattle.tags.proofs.TestLaws.{first-of, second-of, yes, no}
 use Rattle.lines.proofs.line_if.Statement.{statement}

@@ -1,3 +1,4 @@
+-- Part by part, in order. Assumes nothing.
 use borrow.Author.Needs.{needs}
 use Rattle.format.proofs.VerdictLaws.{went, halted}
 use Rattle.rules.specs.Rules.{rulesOver}

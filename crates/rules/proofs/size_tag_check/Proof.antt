@@ -1,3 +1,4 @@
+-- The tag's number beside what the package has from the header's start on. Assumes nothing.
 use borrow.Author.Needs.{needs}
 use Rattle.format.proofs.VerdictLaws.{passed, stopped}
 use Rattle.rules.specs.Rules.{sizeTagCheck}

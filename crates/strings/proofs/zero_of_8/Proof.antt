@@ -1,3 +1,4 @@
+-- Byte by byte; the first zero decides. Assumes nothing.
 use Rattle.strings.proofs.StringLaws as laws
 use borrow.Author.Needs.{needs}
 use Rattle.strings.proofs.zero_of_8.Statement.{statement}

@@ -1,3 +1,4 @@
+-- By the record in the tag's slot. Assumes nothing.
 use Rattle.tags.proofs.TableLaws as laws
 use borrow.Author.Needs.{needs}
 use Rattle.tags.proofs.count.Statement.{statement}

@@ -1,3 +1,4 @@
+-- From the last record to the first, the table is that of the records that were passed. Assumes nothing.
 use Prim.Native.Nat.{_≤_, _-_}
 use mathlib.Core.Path.{_≡_}
 use borrow.Author.Needs.{needs}

@@ -1,3 +1,4 @@
+-- By whether the tag has a slot. Assumes nothing.
 use Rattle.tags.proofs.TableLaws as laws
 use borrow.Author.Needs.{needs}
 use Rattle.tags.proofs.note.Statement.{statement}

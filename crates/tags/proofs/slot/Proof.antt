@@ -1,3 +1,4 @@
+-- By the tests, in order. Assumes nothing.
 use borrow.Author.Tests.{eq-eqb, ne-eqb, le-leb, lt-leb}
 use Rattle.tags.specs.Tables.{slotOf}
 use Rattle.tags.proofs.TestLaws.{first-of, second-of}

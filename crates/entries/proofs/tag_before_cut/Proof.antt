@@ -1,10 +1,11 @@
+-- The records that are left decide. Assumes nothing.
 use borrow.Author.Needs.{needs}
 use Prim.Native.Nat.{_≤_}
 use mathlib.Core.Path.{_≡_, refl}
 use Rattle.entries.specs.Entries.{tagBefore}
 use Rattle.entries.proofs.EntryLaws as laws
-use Rattle.entries.proofs.tag_before.Statement.{statement}
-use Rattle.entries.proofs.tag_before.Tie as tie
+use Rattle.entries.proofs.tag_before_cut.Statement.{statement}
+use Rattle.entries.proofs.tag_before_cut.Tie as tie
 
 abbrev Inv-loop : tie.InvT-loop
 Inv-loop s section i tag k₀ k = (k ≤ i) × (tagBefore s section i tag ≡ tagBefore s section k tag)
@@ -33,8 +34,8 @@ loop-again c = (search needs, search laws.turn)
 returns-2 : tie.Need-returns-2 Inv-loop μ-loop
 returns-2 c = search laws.spent
 
-pub tag-before-spec : {M : Type 1} → statement M
-tag-before-spec =
+pub tag-before-cut-spec : {M : Type 1} → statement M
+tag-before-cut-spec =
     tie.close
     (tie.spec
     Inv-loop
