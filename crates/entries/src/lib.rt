@@ -1,4 +1,4 @@
-// One index record: its type, and checks 9 to 13.
+// One index record: checks 9 to 13.
 ghost use mathlib.Core.Path.{_≡_};
 ghost use Rattle.be.specs.Numbers.{be32At};
 ghost use Rattle.format.specs.Places.{recordPlace};
