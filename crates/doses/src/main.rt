@@ -1,7 +1,6 @@
 // The program that writes the doses of a package.
 // It reads one package from standard input at edition 2, and writes its doses and their sum, or the refusal. It takes no
 // arguments.
-mod input;
 
 ghost use Prim.Native.Nat.{_≤_};
 ghost use lib.ListN.{length};

@@ -80,4 +80,3 @@ module _ (s : List ℕ) (section : Section) (tag ty n i : ℕ) {v : Found} (inv 
 pub spent : (s : List ℕ) (section : Section) (tag ty n i : ℕ) {v : Found} → v ≡ findFrom s section (n - i) i tag ty → n ≤ i
     → Nothing ≡ v
 spent s section tag ty n i inv l = none s section tag ty (n - i) i (omega arith) ∙ sym inv
-

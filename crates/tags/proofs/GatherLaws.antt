@@ -4,14 +4,11 @@ use mathlib.Core.Path.{_≡_, refl, sym, ap, _∙_}
 use mathlib.Core.List.{List}
 use lib.ListN.{replicate}
 use native.Mathlib.Omega.{arith}
-use Rattle.be.specs.Numbers.{be32At}
 use Rattle.format.specs.declared.places.Section.{Section}
-use Rattle.format.specs.declared.records.IndexRecord.{IndexRecord}
 use Rattle.format.specs.Places.{recordPlace}
 use Rattle.format.specs.Records.{indexRecordAt}
 use Rattle.entries.specs.Entries.{recordAt}
-use Rattle.tags.specs.Tables.{slots, slotOf, tableNumbers, noted, gatheredFrom, gathered}
-use Rattle.tags.proofs.TableLaws.{left-out}
+use Rattle.tags.specs.Tables.{tableNumbers, noted, gatheredFrom, gathered}
 
 module _ (s : List ℕ) (section : Section) where
   pub step : (n i : ℕ) → gatheredFrom s section (suc n) i ≡ noted (recordAt s section i) (gatheredFrom s section n (i + 1))
@@ -33,18 +30,10 @@ module _ (s : List ℕ) (section : Section) where
       rw (k, step (n - i) (i - 1), j)
 
   -- t is the table of the records from number i on, t′ what it is with record i - 1
-  pub turn : (n i : ℕ) {t t′ : List ℕ} {place : ℕ} {e : IndexRecord} → t ≡ gatheredFrom s section (n - i) i → 0 < i → i ≤ n
-      → place ≡ recordPlace section (i - 1) → e ≡ indexRecordAt s place → t′ ≡ noted e t
+  pub turn : (n i : ℕ) {t t′ : List ℕ} {place : ℕ} → t ≡ gatheredFrom s section (n - i) i → 0 < i → i ≤ n
+      → place ≡ recordPlace section (i - 1) → t′ ≡ noted (indexRecordAt s place) t
       → t′ ≡ gatheredFrom s section (n - (i - 1)) (i - 1)
-  turn n i inv l h p q r = r ∙ rw (q, p, inv) (sym (unrolled n i l h))
-
-  -- a record whose tag has no slot
-  pub skip : (n i : ℕ) {t : List ℕ} {place tag k : ℕ} → t ≡ gatheredFrom s section (n - i) i → 0 < i → i ≤ n
-      → place ≡ recordPlace section (i - 1) → tag ≡ be32At s place → k ≡ slotOf tag → slots ≤ k
-      → t ≡ gatheredFrom s section (n - (i - 1)) (i - 1)
-  skip n i {k = k} inv l h p q r m =
-      let e : k ≡ slotOf (recordAt s section (i - 1) .tag) = r ∙ ap slotOf (q ∙ ap (be32At s) p) in
-      inv ∙ left-out (gatheredFrom s section (n - i) i) (recordAt s section (i - 1)) e m ∙ sym (unrolled n i l h)
+  turn n i inv l h p r = r ∙ rw (p, inv) (sym (unrolled n i l h))
 
   pub spent : (i : ℕ) {t : List ℕ} → t ≡ gatheredFrom s section (section .nindex - i) i → i ≤ 0 → t ≡ gathered s section
   spent i inv l =

@@ -8,7 +8,8 @@ use lib.ListN.{getD, set}
 use lib.Seq.{sets}
 use native.Mathlib.Omega.{arith}
 use borrow.Author.Tests.{eq-eqb, ne-eqb, lt-ltb, le-ltb}
-use Rattle.format.specs.declared.records.IndexRecord.{IndexRecord}
+use Rattle.be.specs.Numbers.{be32At}
+use Rattle.format.specs.Records.{indexRecordAt}
 use Rattle.index.specs.declared.Tagged.{Tagged}
 use Rattle.index.specs.declared.Tagged.the-variants.{Present, Absent}
 use Rattle.tags.specs.Tags.{isPresent, countOf}
@@ -58,12 +59,17 @@ four t i a b c d =
     let r : i + 3 ≡ suc (suc (suc i)) = omega arith in
     rw (p, q, r)
 
-module _ (t : List ℕ) (r : IndexRecord) {k : ℕ} (e : k ≡ slotOf (r .tag)) where
-  pub left-out : slots ≤ k → t ≡ noted r t
-  unfolding noted
-  left-out h = rw (le-ltb (slotOf (r .tag)) slots (rw e at h))
+module _ (t s : List ℕ) (at : ℕ) {tag k : ℕ} (p : tag ≡ be32At s at) (e : k ≡ slotOf tag) where
+  slot-of : k ≡ slotOf (be32At s at)
+  slot-of = e ∙ ap slotOf p
 
-  pub put : k < slots → set (set (set (set t (4 * k) (r .tag)) (4 * k + 1) (r .ty)) (4 * k + 2) (r .offset .0)) (4 * k + 3) (r .count)
-      ≡ noted r t
+  pub left-out : slots ≤ k → t ≡ noted (indexRecordAt s at) t
   unfolding noted
-  put l = rw (← e, lt-ltb k slots l) (four t (4 * k) (r .tag) (r .ty) (r .offset .0) (r .count))
+  left-out h = rw (le-ltb (slotOf (be32At s at)) slots (rw slot-of at h))
+
+  pub put : {ty offset count : ℕ} → ty ≡ be32At s (at + 4) → offset ≡ be32At s (at + 8) → count ≡ be32At s (at + 12) → k < slots
+      → set (set (set (set t (4 * k) tag) (4 * k + 1) ty) (4 * k + 2) offset) (4 * k + 3) count ≡ noted (indexRecordAt s at) t
+  unfolding noted
+  put q r w l =
+      rw (p, q, r, w, ← slot-of, lt-ltb k slots l)
+      (four t (4 * k) (be32At s at) (be32At s (at + 4)) (be32At s (at + 8)) (be32At s (at + 12)))

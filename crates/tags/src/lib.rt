@@ -1,5 +1,7 @@
 // The records of the catalogue's tags, gathered in one pass over an index.
 ghost use mathlib.Core.Path.{_≡_};
+ghost use Prim.Native.Nat.{_<_};
+ghost use Rattle.format.specs.Records.{indexRecordAt};
 ghost use Rattle.tags.specs.Tags.{has, countIn, numberIn};
 ghost use Rattle.tags.specs.Tables.{slotOf, shownBy, noted, gathered};
 use format::IndexRecord;
@@ -54,19 +56,21 @@ fn slot(tag: u32) -> usize
     Table::SLOTS
 }
 
-// Puts a record in its tag's slot, where it has one.
-fn note(table: &mut [u32; Table::NUMBERS], e: IndexRecord)
-    ensures { λ r. ⌜ now (table .exit) ≡ noted e (now (table .entry)) ⌝ }
+// Puts the record at a place in its tag's slot, where it has one.
+fn note(table: &mut [u32; Table::NUMBERS], s: &[u8], at: usize)
+    requires { ⌜ at < 1099511627776 ⌝ }
+    ensures { λ r. ⌜ now (table .exit) ≡ noted (indexRecordAt (now (s .entry)) at) (now (table .entry)) ⌝ }
 {
-    let k = slot(e.tag);
+    let tag = be::be32(s, at);
+    let k = slot(tag);
     if Table::SLOTS <= k {
         return;
     }
-    let at = 4 * k;
-    table[at] = e.tag;
-    table[at + 1] = e.ty;
-    table[at + 2] = e.offset.0;
-    table[at + 3] = e.count;
+    let to = 4 * k;
+    table[to] = tag;
+    table[to + 1] = be::be32(s, at + IndexRecord::TYPE);
+    table[to + 2] = be::be32(s, at + IndexRecord::OFFSET);
+    table[to + 3] = be::be32(s, at + IndexRecord::COUNT);
 }
 
 // The records of the catalogue's tags in an index: from its last record to its first, so that the first of a tag stays.
@@ -78,9 +82,7 @@ pub fn gather(s: &[u8], section: Section) -> [u32; Table::NUMBERS]
     while 0 < i {
         i -= 1;
         let place = section.index_record(i);
-        if slot(be::be32(s, place.0)) < Table::SLOTS {
-            note(&mut table, IndexRecord::at(s, place));
-        }
+        note(&mut table, s, place.0);
     }
     table
 }

@@ -21,15 +21,6 @@ sub-i c = search needs
 index-record-requires : tie.Need-index-record-requires Inv-loop μ-loop
 index-record-requires c κs = search needs
 
-be32-requires : tie.Need-be32-requires Inv-loop μ-loop
-be32-requires c κs = search needs
-
-slot-requires : tie.Need-slot-requires Inv-loop μ-loop
-slot-requires c κs = search needs
-
-at-requires : tie.Need-at-requires Inv-loop μ-loop
-at-requires c κs = search needs
-
 note-requires : tie.Need-note-requires Inv-loop μ-loop
 note-requires c κs = search needs
 
@@ -38,12 +29,6 @@ loop-less c = search needs
 
 loop-again : tie.Need-loop-again Inv-loop μ-loop
 loop-again c = (search needs, search laws.turn)
-
-loop-less-2 : tie.Need-loop-less-2 Inv-loop μ-loop
-loop-less-2 c = search needs
-
-loop-again-2 : tie.Need-loop-again-2 Inv-loop μ-loop
-loop-again-2 c = (search needs, search laws.skip)
 
 returns : tie.Need-returns Inv-loop μ-loop
 returns c = search laws.spent
@@ -57,12 +42,7 @@ gather-spec =
     loop-holds
     sub-i
     index-record-requires
-    be32-requires
-    slot-requires
-    at-requires
     note-requires
     loop-less
     loop-again
-    loop-less-2
-    loop-again-2
     returns)

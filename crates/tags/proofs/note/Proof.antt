@@ -1,8 +1,10 @@
--- By whether the tag has a slot. Assumes nothing.
 use Rattle.tags.proofs.TableLaws as laws
 use borrow.Author.Needs.{needs}
 use Rattle.tags.proofs.note.Statement.{statement}
 use Rattle.tags.proofs.note.Tie as tie
+
+be32-requires : tie.Need-be32-requires
+be32-requires c κs = search needs
 
 slot-requires : tie.Need-slot-requires
 slot-requires c κs = search needs
@@ -10,14 +12,20 @@ slot-requires c κs = search needs
 returns : tie.Need-returns
 returns c = search laws.left-out
 
-mul-at : tie.Need-mul-at
-mul-at c = search needs
+mul-to : tie.Need-mul-to
+mul-to c = search needs
 
 mul-table : tie.Need-mul-table
 mul-table c = search needs
 
 element-write-table : tie.Need-element-write-table
 element-write-table c = search needs
+
+add-be32 : tie.Need-add-be32
+add-be32 c = search needs
+
+be32-requires-2 : tie.Need-be32-requires-2
+be32-requires-2 c κs = search needs
 
 add-table : tie.Need-add-table
 add-table c = search needs
@@ -28,6 +36,12 @@ mul-table-2 c = search needs
 element-write-table-2 : tie.Need-element-write-table-2
 element-write-table-2 c = search needs
 
+add-be32-2 : tie.Need-add-be32-2
+add-be32-2 c = search needs
+
+be32-requires-3 : tie.Need-be32-requires-3
+be32-requires-3 c κs = search needs
+
 add-table-2 : tie.Need-add-table-2
 add-table-2 c = search needs
 
@@ -36,6 +50,12 @@ mul-table-3 c = search needs
 
 element-write-table-3 : tie.Need-element-write-table-3
 element-write-table-3 c = search needs
+
+add-be32-3 : tie.Need-add-be32-3
+add-be32-3 c = search needs
+
+be32-requires-4 : tie.Need-be32-requires-4
+be32-requires-4 c κs = search needs
 
 add-table-3 : tie.Need-add-table-3
 add-table-3 c = search needs
@@ -53,17 +73,24 @@ pub note-spec : {M : Type 1} → statement M
 note-spec =
     tie.close
     (tie.spec
+    be32-requires
     slot-requires
     returns
-    mul-at
+    mul-to
     mul-table
     element-write-table
+    add-be32
+    be32-requires-2
     add-table
     mul-table-2
     element-write-table-2
+    add-be32-2
+    be32-requires-3
     add-table-2
     mul-table-3
     element-write-table-3
+    add-be32-3
+    be32-requires-4
     add-table-3
     mul-table-4
     element-write-table-4

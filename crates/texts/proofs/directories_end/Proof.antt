@@ -17,7 +17,7 @@ enum-known-found : tie.Need-enum-known-found
 enum-known-found c = search needs
 
 slashes-end-requires : tie.Need-slashes-end-requires
-slashes-end-requires c κs = 
+slashes-end-requires c κs =
     let at-find = c .before .before .before in
     omega (arith, extent-le _ _ (shownBy _ _) (at-find .entry-for .ensures) (c .before .found .given .1))
 
@@ -25,7 +25,7 @@ enum-told : tie.Need-enum-told
 enum-told c = search needs
 
 returns : tie.Need-returns
-returns c = 
+returns c =
     by-case (foundSlashes _) (entryFor _ _ (shownBy _ _)) (search) (c .before .before .found .given .1)
     (c .slashes-end .ensures)
 

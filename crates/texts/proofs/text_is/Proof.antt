@@ -24,7 +24,7 @@ enum-told : tie.Need-enum-told
 enum-told c = search needs
 
 returns : tie.Need-returns
-returns c = 
+returns c =
     by-case (foundText _ _) (entryFor _ _ (shownBy _ _)) (search) (c .before .before .before .found .given .1)
     (rw (c .before .part .ensures) at (c .same .ensures))
 

@@ -4,8 +4,8 @@ use borrow.Author.Needs.{needs}
 use Prim.Native.Nat.{_≤_, _-_}
 use lib.ListN.{length}
 use Rattle.io.proofs.Counting.{counts}
-use Rattle.doses.proofs.input.read.Statement.{statement}
-use Rattle.doses.proofs.input.read.Tie as tie
+use Rattle.input.proofs.read.Statement.{statement}
+use Rattle.input.proofs.read.Tie as tie
 
 abbrev Inv-loop : tie.InvT-loop
 Inv-loop room₀ done₀ room done = (done ≤ length room) × (length room ≡ length room₀)

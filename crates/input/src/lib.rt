@@ -1,4 +1,5 @@
-// Standard input as bytes.
+// Standard input, for the programs.
+// It is read up to its end, a read that fails, or as much as there is room for.
 ghost use Rattle.io.specs.Counts.{Counts};
 use libc::STDIN_FILENO;
 
@@ -9,7 +10,7 @@ pub struct Input {
 }
 
 // Reads standard input to the front of `room`, up to its end, a read that fails, or as much as `room` holds.
-pub(crate) fn read(room: &mut [u8]) -> Input
+pub fn read(room: &mut [u8]) -> Input
     ensures { λ r. ⌜ Counts (r .count) (now (room .exit)) ⌝ }
 {
     let mut done = 0;
