@@ -23,14 +23,16 @@ sed -n '/^<!-- catalogue -->$/,/^<!-- end -->$/p' "$page" | sed '1,3d;$d' | tr '
 [ "$(wc -l < "$work/page")" = 82 ] || fail "$page: not 82 lines"
 
 # the program's, in its order, without names
-awk -F '[][, ]+' '
+awk -F '[, ]+' '
     BEGIN {
         split("char int8 int16 int32 - string bin string_array translated_string", types, " ")
         split("optional required required_in_edition_2", statuses, " ")
     }
-    /^    \[[0-9]+, [0-9]+, [0-9]+, [0-9]+\],$/ {
-        print ++lines <= 11 ? "signature" : "header", $2, $3 "_" types[$3], $4 == 0 ? "any" : $4, statuses[$5 + 1]
-    }' crates/catalogue/src/lib.rt > "$work/program"
+    /^    [0-9]+,/ {
+        n[numbers++ % 4] = $2
+        if (numbers % 4 == 0)
+            print ++lines <= 11 ? "signature" : "header", n[0], n[1] "_" types[n[1]], n[2] == 0 ? "any" : n[2], statuses[n[3] + 1]
+    }' crates/catalogue/src/numbers.rt > "$work/program"
 cut -d ' ' -f 1-5 "$work/page" | diff - "$work/program" || fail "$page: not the catalogue of crates/catalogue"
 
 # the printed tables, but for the exceptions that examples/tags.h has too, and the house tags

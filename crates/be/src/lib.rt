@@ -1,5 +1,6 @@
-// Big-endian numbers and parts of a slice of bytes. Each function answers for any place: a byte past
-// the end reads as 0, and a part ends where the slice does.
+// Big-endian numbers and parts of a slice.
+// Each function answers for any place: a byte past the end reads as 0, and a part ends where the slice
+// does.
 ghost use mathlib.Core.Path.{_≡_};
 ghost use Prim.Native.Nat.{ℕ, _+_, _*_, _-_, _≤_, _<_};
 ghost use lib.ListN.{length, getD, take, drop};

@@ -1,4 +1,5 @@
-// A book of recipes: kinds, records and doses over the book's bytes alone. Checks 19 to 22.
+// A book's kinds, records and doses: checks 19 to 22.
+// It knows the book's bytes alone.
 ghost use mathlib.Core.Path.{_≡_};
 ghost use Prim.Native.Nat.{_≤_};
 ghost use lib.ListN.{length};

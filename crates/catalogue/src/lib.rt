@@ -1,4 +1,5 @@
-// The catalogue: what source document 000 says of each tag, with document 01's exceptions and house lines.
+// The catalogue of 82 lines and its one rule.
+// It is what source document 000 says of each tag, with document 01's exceptions and house lines.
 ghost use mathlib.Core.Path.{_≡_};
 ghost use Rattle.catalogue.specs.Catalogue.{catalogue, flat, lineAt, lineIn, inEdition, isRequired, isAsLine};
 

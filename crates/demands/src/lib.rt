@@ -1,4 +1,4 @@
-// The letter's demands over the reading, and the call that reads a package at both editions.
+// The letter's demands, proved of the reading, and the calls that read at both editions.
 ghost use Rattle.demands.specs.Demands.{ReadBoth, ReadBothBytes};
 use format::Answer;
 

@@ -1,5 +1,6 @@
-// The doses of a package: reads one package from standard input at edition 2, and writes its doses and their sum, or the
-// refusal. It takes no arguments.
+// The program that writes the doses of a package.
+// It reads one package from standard input at edition 2, and writes its doses and their sum, or the refusal. It takes no
+// arguments.
 
 ghost use Prim.Native.Nat.{_≤_};
 ghost use lib.ListN.{length};

@@ -1,4 +1,4 @@
-// Look-ups of the elements of an entry.
+// Look-ups of the elements of an entry: check 26.
 ghost use mathlib.Core.Path.{_≡_};
 ghost use Prim.Native.Nat.{_+_, _≤_};
 ghost use Rattle.format.specs.Sizes.{packageLimit};

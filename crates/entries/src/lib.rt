@@ -1,4 +1,4 @@
-// One index record: its type, and checks 9 to 13.
+// One index record: checks 9 to 13.
 ghost use mathlib.Core.Path.{_≡_};
 ghost use Prim.Native.Nat.{_≤_};
 ghost use mathlib.Core.List.{[]};

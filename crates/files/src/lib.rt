@@ -1,4 +1,5 @@
-// Check 17 for the file lists and the file names, over the records that were gathered.
+// File lists and file names: check 17.
+// It asks the records that were gathered.
 ghost use mathlib.Core.Path.{_≡_};
 ghost use Prim.Native.Nat.{ℕ};
 ghost use Rattle.tags.specs.Tables.{shownBy};

@@ -1,4 +1,4 @@
-// The package format's records with their sizes and field places, the two kinds of place, and what a run of checks finds.
+// Lead, header record and index record, the two kinds of place, verdict and answer.
 pub mod lead;
 pub mod places;
 pub mod records;

@@ -1,4 +1,5 @@
-// Check 17: groups of tags, over the records that were gathered.
+// Groups of tags, those of the files among them: check 17.
+// It asks the records that were gathered.
 ghost use mathlib.Core.Path.{_≡_};
 ghost use Prim.Native.Nat.{ℕ};
 ghost use mathlib.Core.Bool.{_||_};

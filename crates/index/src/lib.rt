@@ -1,4 +1,4 @@
-// The entry with a tag and a type.
+// The entry with a tag and a type in one structure.
 ghost use mathlib.Core.Path.{_≡_};
 ghost use Rattle.index.specs.Lookup.{extentTo, entryOf, findIn};
 use entries::data_end;

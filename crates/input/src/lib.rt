@@ -1,4 +1,5 @@
-// Standard input as bytes.
+// Standard input, for the programs.
+// It is read up to its end, a read that fails, or as much as there is room for.
 ghost use Rattle.io.specs.Counts.{Counts};
 use libc::STDIN_FILENO;
 

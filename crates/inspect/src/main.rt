@@ -1,5 +1,6 @@
-// Shows what a package holds. It reads the package from standard input; its arguments say what to show: an index, the
-// data of an entry or of an element, or the version required for a name.
+// The program that shows what a package holds.
+// It reads the package from standard input; its arguments say what to show: an index, the data of an entry or of an
+// element, or the version required for a name.
 mod request;
 mod show;
 

@@ -1,4 +1,4 @@
-// Checks 14 and 15: the lines of the catalogue.
+// The lines of the catalogue: checks 14 and 15.
 ghost use mathlib.Core.Path.{_≡_};
 ghost use Prim.Native.Nat.{ℕ, _-_};
 ghost use Rattle.catalogue.specs.Catalogue.{catalogue, flat, inEdition, lineAt};

@@ -1,4 +1,4 @@
-// Look-ups of entries.
+// Look-ups of entries: check 25.
 ghost use mathlib.Core.Path.{_≡_};
 ghost use Rattle.index.specs.Lookup.{findIn, foundBytes};
 ghost use Rattle.lookups.specs.Lookup.{sought, soughtBytes, findBytes, findAnswer};

@@ -1,4 +1,4 @@
-// A whole package: checks 2 to 13.
+// A whole package: checks 2 to 4, and 2 to 13 in order.
 ghost use mathlib.Core.Path.{_≡_};
 ghost use Prim.Native.Nat.{ℕ, _+_, _≤_};
 ghost use lib.ListN.{length};

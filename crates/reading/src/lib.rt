@@ -1,4 +1,4 @@
-// The reading of a package at an edition: checks 1 to 24, and the dose buffer.
+// The reading at an edition: checks 1, 23 and 24, and 1 to 24 in order.
 ghost use mathlib.Core.Path.{_≡_};
 ghost use Prim.Native.Nat.{ℕ};
 ghost use lib.ListN.{length};

@@ -1,4 +1,4 @@
-// Checks 14 to 18 over a package's two structures.
+// The size tag: check 16, and 14 to 18 in order.
 ghost use mathlib.Core.Path.{_≡_};
 ghost use Prim.Native.Nat.{ℕ, _-_};
 ghost use Rattle.catalogue.specs.Catalogue.{inEdition};

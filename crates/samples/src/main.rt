@@ -1,5 +1,5 @@
-// Runs document 01's bench samples: each package of data/ is looked up or read, and the answer is written as
-// `NUMBER at PLACE`.
+// Document 01's samples: those marked P proved, the rest run.
+// The program looks up or reads each package of data/, and writes the answer as `NUMBER at PLACE`.
 use format::Answer;
 use libc::STDOUT_FILENO;
 

@@ -1,4 +1,5 @@
-// The calls for a host program in C: number and place in one number, number × 2^32 + place.
+// The calls for C.
+// Number and place are in one number, number × 2^32 + place.
 ghost use mathlib.Core.Path.{_≡_};
 ghost use Rattle.format.specs.Verdicts.{packedOf};
 ghost use Rattle.elements.specs.Elements.{findElementAnswer};

@@ -1,4 +1,5 @@
-// Zero-ended strings of a slice of bytes. A byte past the end reads as 0.
+// Zero-ended strings of a slice.
+// A byte past the end reads as 0.
 ghost use mathlib.Core.Path.{_≡_};
 ghost use Prim.Native.Nat.{ℕ, _+_, _-_, _≤_, _<_};
 ghost use lib.ListN.{length};

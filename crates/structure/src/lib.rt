@@ -1,4 +1,4 @@
-// One header structure: checks 5 to 13.
+// One header structure: checks 5 to 8, and 5 to 13 in order.
 ghost use mathlib.Core.Path.{_≡_};
 ghost use Prim.Native.Nat.{ℕ, _+_, _≤_, _<_};
 ghost use lib.ListN.{length};

@@ -1,4 +1,4 @@
-// What the rules ask of a tag: the records of the catalogue's tags, gathered from an index in one pass.
+// The records of the catalogue's tags, gathered in one pass over an index.
 ghost use mathlib.Core.Path.{_≡_};
 ghost use Prim.Native.Nat.{_<_};
 ghost use Rattle.format.specs.Records.{indexRecordAt};

@@ -1,4 +1,5 @@
-// Numbers and bytes as text: a decimal word read, bytes written in hex, numbers on a line.
+// Numbers and bytes as text, for the programs.
+// A decimal word is read, bytes are written in hex, numbers on a line.
 pub mod lines;
 
 ghost use mathlib.Core.Path.{_≡_};

@@ -1,4 +1,5 @@
-// Check 18: texts, over the records that were gathered.
+// Texts: check 18.
+// It asks the records that were gathered.
 ghost use mathlib.Core.Path.{_≡_};
 ghost use Prim.Native.Nat.{ℕ, _+_, _*_, _<_};
 ghost use Rattle.tags.specs.Tables.{shownBy};

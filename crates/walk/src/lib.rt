@@ -1,4 +1,5 @@
-// Walking an index: a position by value that hands back the next.
+// Walking an index: check 26.
+// A position by value hands back the next.
 ghost use mathlib.Core.Path.{_≡_};
 ghost use Prim.Native.Nat.{ℕ, _+_, _≤_, _<_};
 ghost use Rattle.format.specs.Sizes.{packageLimit};
