@@ -1,6 +1,5 @@
--- The sum stays below the bound of the numbers passed. Assumes nothing.
-use Prim.Native.Nat.{_+_}
 -- Each number is below 2^32, and there are few. Assumes nothing.
+use Prim.Native.Nat.{_+_}
 use borrow.Author.Needs.{needs}
 use Prim.Native.Nat.{_≤_, _-_, _*_}
 use native.Mathlib.Omega.{arith}
