@@ -4,6 +4,7 @@
 
 ghost use Prim.Native.Nat.{_≤_};
 ghost use lib.ListN.{length};
+use book::Dose;
 use format::Answer;
 use format::FileOffset;
 use libc::STDOUT_FILENO;
@@ -68,7 +69,7 @@ fn put_package(pkg: &[u8]) {
     let answer = reading::read(2, pkg, &mut doses);
     match answer {
         Answer::Done(count) => {
-            let used = 2 * count as usize;
+            let used = Dose::NUMBERS as usize * count as usize;
             put_book(&doses[..used]);
         }
         Answer::Refused(number, place) => put_refused(number, place),

@@ -11,6 +11,7 @@ use Rattle.format.specs.declared.verdict.Answer.{Answer}
 use Rattle.format.specs.declared.verdict.Answer.the-variants.{Done, Refused}
 use Rattle.format.proofs.VerdictLaws.{inverted, both-inverted}
 use Rattle.book.specs.Doses.{doses}
+use Rattle.buffer.specs.Buffer.{numbersPerDose}
 use Rattle.reading.specs.Reading.{bookOf, needed, roomCheck, bookPart, openedCheck, checksAt, readingCheck, answerAs, readAnswer}
 
 pub done : (v : Verdict) (count : ℕ) {n : ℕ} → answerAs v count ≡ Done n → (v ≡ Pass) × (n ≡ count)
@@ -29,7 +30,7 @@ pass-room edition s room h =
     leb-true _ _ (inverted _ _ _ _ (both-inverted _ _ (k .1) .1) .0)
 
 pub answer-room : (edition : ℕ) (s : List ℕ) (room : ℕ) {answer : Answer} {count : ℕ} → answer ≡ readAnswer edition s room
-    → answer ≡ Done count → 2 * count ≤ room
+    → answer ≡ Done count → numbersPerDose * count ≤ room
 answer-room edition s room p h =
     let k = done (readingCheck edition s room) (length (doses (bookOf s))) (sym p ∙ h) in
     let r = pass-room edition s room (k .0) in

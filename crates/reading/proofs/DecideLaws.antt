@@ -4,6 +4,7 @@ use mathlib.Core.Path.{_≡_, refl, sym, ap, _∙_}
 use mathlib.Core.List.{List, [], _∷_}
 use lib.ListN.{length}
 use native.Mathlib.Omega.{arith}
+use Rattle.format.specs.Sizes.{packageLimit}
 use Rattle.format.specs.declared.places.Section.{Section}
 use Rattle.format.specs.declared.verdict.Verdict.{Verdict}
 use Rattle.format.specs.declared.verdict.Verdict.the-variants.{Pass, Fail}
@@ -73,7 +74,7 @@ module _ (edition : ℕ) (s : List ℕ) (room : ℕ) {r : Opened} (q : r ≡ ope
         let g = both-inverted _ _ (f .0) in
         (g .0, g .1, f .1, f .2)
 
-    pub small : length s ≤ 65536
+    pub small : length s ≤ packageLimit
     small = sound-size s (sound .1)
 
     left : readingCheck edition s room ≡ openedCheck (editionOf edition) s (signatureAt s) (headerAt s) room (bookOf s)

@@ -26,6 +26,7 @@ use Rattle.book.specs.declared.Weighed.{Weighed}
 use Rattle.book.specs.declared.Weighed.the-variants as weighed′
 use Rattle.book.specs.Doses.{doses, weighed}
 use Rattle.book.proofs.PassLaws.{weighed-doses, weighed-unsound, few-doses}
+use Rattle.buffer.specs.Buffer.{numbersPerDose}
 use Rattle.reading.specs.declared.opened.Weighing.{Weighing}
 use Rattle.reading.specs.declared.opened.Weighing.the-variants.{Doses, Refused}
 use Rattle.reading.specs.Editions.{editionOf, batchTag, batchLine}
@@ -72,12 +73,12 @@ module _ (edition : ℕ) (s : List ℕ) (header : Section) (room : ℕ) (b : Lis
   book-refused h = rw (both-fail _ (weighed-unsound edition b p h))
 
   module _ {count sum : ℕ} (h : w ≡ weighed′.Doses count sum) where
-    pub needed-fits : Fits w32 (2 * count)
+    pub needed-fits : Fits w32 (numbersPerDose * count)
     needed-fits = let k = few-doses edition b p h in record { fits = omega arith }
 
     -- what is left once the book passed
     book-left : bookPart (editionOf edition) s header room b
-        ≡ both (sumCheck (editionOf edition) s header sum) (check (leb (2 * count) room) 24 (2 * count) Pass)
+        ≡ both (sumCheck (editionOf edition) s header sum) (check (leb (numbersPerDose * count) room) 24 (numbersPerDose * count) Pass)
     unfolding bookPart roomCheck
     book-left =
         let d = weighed-doses edition b p h in
@@ -88,17 +89,17 @@ module _ (edition : ℕ) (s : List ℕ) (header : Section) (room : ℕ) (b : Lis
           → Refused number place ≡ weighingAs (bookPart (editionOf edition) s header room b) (length (doses b))
       sum-refused k = rw (book-left ∙ both-fail _ (sym q ∙ k))
 
-      pub room-refused : v ≡ Pass → room < 2 * count
-          → Refused 24 (2 * count) ≡ weighingAs (bookPart (editionOf edition) s header room b) (length (doses b))
+      pub room-refused : v ≡ Pass → room < numbersPerDose * count
+          → Refused 24 (numbersPerDose * count) ≡ weighingAs (bookPart (editionOf edition) s header room b) (length (doses b))
       unfolding check
       room-refused k l =
-          rw (book-left ∙ both-pass {rest = check (leb (2 * count) room) 24 (2 * count) Pass} (sym q ∙ k), lt-leb (2 * count) room l)
+          rw (book-left ∙ both-pass {rest = check (leb (numbersPerDose * count) room) 24 (numbersPerDose * count) Pass} (sym q ∙ k), lt-leb (numbersPerDose * count) room l)
 
-      pub doses-accepted : v ≡ Pass → 2 * count ≤ room
+      pub doses-accepted : v ≡ Pass → numbersPerDose * count ≤ room
           → Doses count ≡ weighingAs (bookPart (editionOf edition) s header room b) (length (doses b))
       unfolding check
       doses-accepted k l =
-          rw (book-left ∙ both-pass {rest = check (leb (2 * count) room) 24 (2 * count) Pass} (sym q ∙ k), le-leb (2 * count) room l)
+          rw (book-left ∙ both-pass {rest = check (leb (numbersPerDose * count) room) 24 (numbersPerDose * count) Pass} (sym q ∙ k), le-leb (numbersPerDose * count) room l)
           (ap Doses (weighed-doses edition b p h .1))
 
 -- checks 14 to 18 first

@@ -2,6 +2,7 @@
 ghost use mathlib.Core.Path.{_≡_};
 ghost use Prim.Native.Nat.{ℕ, _≤_};
 ghost use lib.ListN.{length};
+ghost use Rattle.format.specs.Sizes.{packageLimit};
 ghost use Rattle.book.specs.Doses.{doses};
 ghost use Rattle.reading.specs.Editions.{editionOf};
 ghost use Rattle.reading.specs.Reading.{weightIn, sumCheck, bookPart, openedCheck};
@@ -98,7 +99,7 @@ pub(crate) fn weigh(
     room: usize,
     bytes: &[u8],
 ) -> Weighing
-    requires { ⌜ length (now pkg) ≤ 65536 ⌝ }
+    requires { ⌜ length (now pkg) ≤ packageLimit ⌝ }
     ensures { λ r. ⌜ r ≡ weighingAs (openedCheck (editionOf edition) (now (pkg .entry)) signature header room (now (bytes .entry))) (length (doses (now (bytes .entry)))) ⌝ }
 {
     let v = rules::check(edition, pkg, pkg.len() as u32, signature, header);
