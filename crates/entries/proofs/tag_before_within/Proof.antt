@@ -74,9 +74,9 @@ loop-again-2 c =
     let start = c .before .before .before .before .before in (
       search needs,
       laws.turn-low _ _ _ _ (c .before .before .before .before .loop .inv .1) (at-place .index-record .ensures) refl
-      (omega (arith, start .shared-slice-known .given (at-place .index-record .result .0 + 3)))
-      (c .if1 .left)
-      (search needs),
+          (omega (arith, start .shared-slice-known .given (at-place .index-record .result .0 + 3)))
+          (c .if1 .left)
+          (search needs),
     )
 
 returns-2 : tie.Need-returns-2 Inv-loop μ-loop
