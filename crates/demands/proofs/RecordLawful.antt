@@ -17,7 +17,8 @@ use Rattle.entries.specs.declared.types.ElementSize.{ElementSize}
 use Rattle.entries.specs.declared.types.ElementSize.the-variants.{Bytes, ToZero, Unlawful}
 use Rattle.entries.specs.Types.{elementSize, isLawful}
 use Rattle.entries.specs.Entries.{recordAt, typeLawful, countRight, alignedTo, isAligned}
-use Rattle.entries.specs.Entries.{endFor, dataEnd, isInside, tagBefore}
+use Rattle.entries.specs.Entries.{endFor, dataEnd, isInside}
+use Rattle.repeats.specs.Repeats.{tagBefore}
 use Rattle.demands.specs.Lawful.{zerosFrom, LawfulRecord}
 use Rattle.demands.proofs.StringLawful.{strings-lawful}
 

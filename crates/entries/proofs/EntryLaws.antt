@@ -21,7 +21,8 @@ use Rattle.entries.specs.Types.{elementSize, isLawful}
 use Rattle.format.specs.declared.verdict.Verdict.{Verdict}
 use Rattle.format.specs.declared.verdict.Verdict.the-variants.{Pass}
 use Rattle.format.specs.Verdicts.{check, both}
-use Rattle.entries.specs.Entries.{typeLawful, countRight, alignedTo, isAligned, endFor, dataEnd, tagBefore}
+use Rattle.entries.specs.Entries.{typeLawful, countRight, alignedTo, isAligned, endFor, dataEnd}
+use Rattle.repeats.specs.Repeats.{tagBefore}
 use Rattle.entries.specs.Entries.{dataCheck, entryCheck}
 use Rattle.entries.proofs.TypeLaws.{bytes-small}
 
@@ -65,56 +66,6 @@ module _ (s : List ℕ) (section : Section) (e : IndexRecord) {k : ElementSize} 
   pub end-unlawful : k ≡ Unlawful → Open ≡ dataEnd s section e
   unfolding dataEnd
   end-unlawful h = rw (← q, h)
-
--- a number read at a place
-pub placed : (s : List ℕ) {r at place : ℕ} → r ≡ be32At s at → at ≡ place → r ≡ be32At s place
-placed s h e = h ∙ ap (be32At s) e
-
--- one of the first k records, in the shape of what is known in a turn: v is what the search began with, r the tag read
-step : (s : List ℕ) (section : Section) (tag k : ℕ)
-    → tagBefore s section (suc k) tag ≡ (eqb (be32At s (recordPlace section k)) tag || tagBefore s section k tag)
-unfolding tagBefore
-step s section tag k = refl
-
-low-byte : (s : List ℕ) (at tag : ℕ) → be32At s at ≡ tag → getD s (at + 3) 0 < 256 → getD s (at + 3) 0 ≡ tag % 256
-unfolding be32At
-low-byte s at tag q b = omega arith
-
-module _ (s : List ℕ) (section : Section) (tag k : ℕ) {v : Bool} (inv : v ≡ tagBefore s section k tag) where
-  pub turn : {r : ℕ} → r ≡ be32At s (recordPlace section (k - 1)) → (r ≡ tag → ⊥) → 0 < k
-      → v ≡ tagBefore s section (k - 1) tag
-  turn e h l =
-      let j : k ≡ suc (k - 1) = omega arith in
-      let f = ne-eqb (be32At s (recordPlace section (k - 1))) tag (λ q. h (e ∙ q)) in
-      inv ∙ ap (λ (n : ℕ). tagBefore s section n tag) j ∙ step s section tag (k - 1) ∙ rw f
-
-  pub ends : {r : ℕ} → r ≡ be32At s (recordPlace section (k - 1)) → r ≡ tag → 0 < k → true ≡ v
-  ends e h l =
-      let j : k ≡ suc (k - 1) = omega arith in
-      let f = eq-eqb (be32At s (recordPlace section (k - 1))) tag (sym e ∙ h) in
-      sym (inv ∙ ap (λ (n : ℕ). tagBefore s section n tag) j ∙ step s section tag (k - 1) ∙ rw f)
-
-  -- the record's tag, read at its place
-  module _ {at r : ℕ} (d : at ≡ recordPlace section (k - 1))
-      (p : r ≡ getD s at 0 * 16777216 + getD s (at + 1) 0 * 65536 + getD s (at + 2) 0 * 256 + getD s (at + 3) 0) where
-    read : r ≡ be32At s (recordPlace section (k - 1))
-    unfolding be32At
-    read = placed s p d
-
-    pub turn-read : (r ≡ tag → ⊥) → 0 < k → v ≡ tagBefore s section (k - 1) tag
-    turn-read h l = turn read h l
-
-    pub ends-read : r ≡ tag → 0 < k → true ≡ v
-    ends-read h l = ends read h l
-
-  -- the last byte of the tag differs
-  pub turn-low : {at low : ℕ} → at ≡ recordPlace section (k - 1) → low ≡ tag % 256 → getD s (at + 3) 0 < 256
-      → (getD s (at + 3) 0 ≡ low → ⊥) → 0 < k → v ≡ tagBefore s section (k - 1) tag
-  turn-low {at} e m b h l = turn (ap (be32At s) e) (λ q. h (low-byte s at tag q b ∙ sym m)) l
-
-  pub spent : k ≤ 0 → false ≡ v
-  unfolding tagBefore
-  spent l = let j : k ≡ 0 = omega arith in sym (rw j at inv)
 
 -- the rungs of an entry, by its element size
 module _ (e : IndexRecord) {n : ℕ} (q : Bytes n ≡ elementSize (e .ty)) where

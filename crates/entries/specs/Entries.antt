@@ -14,6 +14,7 @@ use Rattle.format.specs.declared.verdict.Verdict.the-variants.{Pass}
 use Rattle.format.specs.Places.{recordPlace, inFile}
 use Rattle.format.specs.Records.{indexRecordAt}
 use Rattle.format.specs.Verdicts.{check}
+use Rattle.repeats.specs.Repeats.{tagBefore}
 use Rattle.entries.specs.declared.types.ElementSize.{ElementSize}
 use Rattle.entries.specs.declared.types.ElementSize.the-variants.{Bytes, ToZero, Unlawful}
 use Rattle.entries.specs.Types.{elementSize, isLawful}
@@ -53,11 +54,6 @@ dataEnd s section e = endFor (elementSize (e .ty)) s section e
 -- 12 | data not inside the store
 abbrev pub isInside : List ℕ → Section → IndexRecord → Bool
 isInside s section e = isEnded (dataEnd s section e)
-
--- 13 | tag of an earlier record: one of the first i
-unfoldable pub tagBefore : List ℕ → Section → ℕ → ℕ → Bool
-tagBefore s section zero tag = false
-tagBefore s section (suc i) tag = eqb (be32At s (recordPlace section i)) tag || tagBefore s section i tag
 
 -- 9 to 12 for an index record that starts at a place, with where its data ends
 unfoldable pub dataCheck : ℕ → IndexRecord → Ending → Verdict

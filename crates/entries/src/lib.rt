@@ -1,19 +1,16 @@
-// One index record: checks 9 to 13.
+// One index record: checks 9 to 13 in order.
 ghost use mathlib.Core.Path.{_≡_};
-ghost use Prim.Native.Nat.{_≤_};
 ghost use mathlib.Core.List.{[]};
-ghost use lib.ListN.{length};
-ghost use Rattle.be.specs.Numbers.{be32At};
-ghost use Rattle.format.specs.Places.{recordPlace};
 ghost use Rattle.entries.specs.declared.types.ElementSize.the-variants.{Bytes, ToZero};
 ghost use Rattle.entries.specs.Types.{elementSize};
-ghost use Rattle.entries.specs.Entries.{countRight, endFor, dataEnd, tagBefore, dataCheck, entryCheck};
+ghost use Rattle.entries.specs.Entries.{countRight, endFor, dataEnd, dataCheck, entryCheck};
 
 pub mod types;
 
 use format::IndexRecord;
 use format::Section;
 use format::Verdict;
+use repeats::tag_before;
 use strings::Ending;
 pub use types::ElementSize;
 use types::element_size;
@@ -52,66 +49,6 @@ pub fn data_end(s: &[u8], section: Section, e: IndexRecord) -> Ending
         }
         ElementSize::Unlawful => Ending::Open,
     }
-}
-
-// The tag of record `i`. For one of the first `n`, where the slice has those whole, it is read at once.
-pub fn tag_at(s: &[u8], section: Section, n: u32, i: u32) -> u32
-    ensures { λ r. ⌜ r ≡ be32At (now (s .entry)) (recordPlace section i) ⌝ }
-{
-    let end = section.index_record(n);
-    let place = section.index_record(i);
-    let at = place.0;
-    if end.0 <= s.len() {
-        if i < n {
-            return be::join32(s[at], s[at + 1], s[at + 2], s[at + 3]);
-        }
-    }
-    be::be32(s, at)
-}
-
-// Whether one of the first `i` records has the tag (check 13), in a slice that may end before them.
-fn tag_before_cut(s: &[u8], section: Section, i: u32, tag: u32) -> bool
-    ensures { λ r. ⌜ r ≡ tagBefore (now (s .entry)) section i tag ⌝ }
-{
-    let mut k = i;
-    while 0 < k {
-        k -= 1;
-        if tag_at(s, section, i, k) == tag {
-            return true;
-        }
-    }
-    false
-}
-
-// The same in a slice that has them. Most tags differ in their last byte.
-fn tag_before_within(s: &[u8], section: Section, i: u32, tag: u32) -> bool
-    requires { ⌜ recordPlace section i ≤ length (now s) ⌝ }
-    ensures { λ r. ⌜ r ≡ tagBefore (now (s .entry)) section i tag ⌝ }
-{
-    let low = (tag % 256) as u8;
-    let mut k = i;
-    while 0 < k {
-        k -= 1;
-        let place = section.index_record(k);
-        let at = place.0;
-        if s[at + 3] == low {
-            if be::join32(s[at], s[at + 1], s[at + 2], s[at + 3]) == tag {
-                return true;
-            }
-        }
-    }
-    false
-}
-
-// Whether one of the first `i` records has the tag (check 13).
-fn tag_before(s: &[u8], section: Section, i: u32, tag: u32) -> bool
-    ensures { λ r. ⌜ r ≡ tagBefore (now (s .entry)) section i tag ⌝ }
-{
-    let end = section.index_record(i);
-    if s.len() < end.0 {
-        return tag_before_cut(s, section, i, tag);
-    }
-    tag_before_within(s, section, i, tag)
 }
 
 // Checks 10 to 12 for a record that is `e` and starts at `place`, of elements of `n` bytes each.

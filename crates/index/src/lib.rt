@@ -2,7 +2,7 @@
 ghost use mathlib.Core.Path.{_≡_};
 ghost use Rattle.index.specs.Lookup.{extentTo, entryOf, findIn};
 use entries::data_end;
-use entries::tag_at;
+use repeats::tag_at;
 use format::FileOffset;
 use format::IndexRecord;
 use format::Section;

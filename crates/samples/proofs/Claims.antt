@@ -5,7 +5,8 @@ use Rattle.be.specs.Bytes.{sameBytes}
 use Rattle.strings.specs.Strings.{stringsFrom}
 use Rattle.format.specs.Verdicts.{check, both}
 use Rattle.entries.specs.Types.{elementSize}
-use Rattle.entries.specs.Entries.{countRight, dataEnd, tagBefore, entryCheck}
+use Rattle.entries.specs.Entries.{countRight, dataEnd, entryCheck}
+use Rattle.repeats.specs.Repeats.{tagBefore}
 use Rattle.structure.specs.Structure.{headerCheck, recordsFrom, structureCheck}
 use Rattle.book.specs.Kinds.{isKnown}
 use Rattle.book.specs.Book.{placesFrom, doseLawful, recordCheck, recordsCheck, lengthCheck, bookCheck}

@@ -10,7 +10,8 @@ use Rattle.format.specs.declared.places.Section.{Section}
 use Rattle.format.specs.declared.records.IndexRecord.{IndexRecord}
 use Rattle.format.specs.declared.verdict.Verdict.the-variants.{Pass}
 use Rattle.format.proofs.VerdictLaws.{inverted}
-use Rattle.entries.specs.Entries.{recordAt, tagBefore, entryCheck, recordCheck}
+use Rattle.entries.specs.Entries.{recordAt, entryCheck, recordCheck}
+use Rattle.repeats.specs.Repeats.{tagBefore}
 use Rattle.index.specs.Lookup.{isFor}
 
 and-true : (a b : Bool) → (a && b) ≡ true → (a ≡ true) × (b ≡ true)

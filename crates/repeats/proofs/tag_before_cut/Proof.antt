@@ -2,10 +2,10 @@
 use borrow.Author.Needs.{needs}
 use Prim.Native.Nat.{_≤_}
 use mathlib.Core.Path.{_≡_, refl}
-use Rattle.entries.specs.Entries.{tagBefore}
-use Rattle.entries.proofs.EntryLaws as laws
-use Rattle.entries.proofs.tag_before_cut.Statement.{statement}
-use Rattle.entries.proofs.tag_before_cut.Tie as tie
+use Rattle.repeats.specs.Repeats.{tagBefore}
+use Rattle.repeats.proofs.RepeatLaws as laws
+use Rattle.repeats.proofs.tag_before_cut.Statement.{statement}
+use Rattle.repeats.proofs.tag_before_cut.Tie as tie
 
 abbrev Inv-loop : tie.InvT-loop
 Inv-loop s section i tag k₀ k = (k ≤ i) × (tagBefore s section i tag ≡ tagBefore s section k tag)

@@ -1,15 +1,26 @@
--- Where the slice has all n records the tag is read at once. Assumes nothing.
-use Rattle.entries.proofs.EntryLaws.{placed}
-use Rattle.be.specs.Numbers.{be32At}
+-- By the last byte, then by all four. Assumes nothing.
+use Prim.Native.Nat.{_+_}
+use native.Mathlib.Omega.{arith}
+use Rattle.repeats.proofs.RepeatLaws as laws
 use borrow.Author.Needs.{needs}
-use Rattle.entries.proofs.tag_at.Statement.{statement}
-use Rattle.entries.proofs.tag_at.Tie as tie
+use Rattle.repeats.proofs.tag_is.Statement.{statement}
+use Rattle.repeats.proofs.tag_is.Tie as tie
+use Rattle.repeats.proofs.tag_is.Reads as reads
+use Rattle.repeats.proofs.tag_is.Lts as lts
+use Rattle.be.proofs.join32.Reads as join32-reads
 
-index-record-requires : tie.Need-index-record-requires
-index-record-requires c κs = search needs
+add-if1 : tie.Need-add-if1
+add-if1 c = search needs
 
-index-record-requires-2 : tie.Need-index-record-requires-2
-index-record-requires-2 c κs = search needs
+shared-slice-read-if1 : tie.Need-shared-slice-read-if1
+shared-slice-read-if1 c = search needs
+
+returns : tie.Need-returns
+returns c =
+    let known = c .before .before in
+    let start = known .before in
+    laws.low-differs _ (start .args .at) _ (start .pre .1)
+    (omega (arith, known .shared-slice-known .given (start .args .at + 3))) (c .if1 .taken)
 
 shared-slice-read-join32 : tie.Need-shared-slice-read-join32
 shared-slice-read-join32 c = search needs
@@ -35,22 +46,16 @@ shared-slice-read-join32-4 c = search needs
 join32-requires : tie.Need-join32-requires
 join32-requires c κs = search needs
 
-returns : tie.Need-returns
-unfolding be32At
-returns c = search placed
-
-be32-requires : tie.Need-be32-requires
-be32-requires c κs = search needs
-
 returns-2 : tie.Need-returns-2
-returns-2 c = search placed
+returns-2 c = search laws.joined
 
-pub tag-at-spec : {M : Type 1} → statement M
-tag-at-spec =
+pub tag-is-spec : {M : Type 1} → statement M
+tag-is-spec =
     tie.close
     (tie.spec
-    index-record-requires
-    index-record-requires-2
+    add-if1
+    shared-slice-read-if1
+    returns
     shared-slice-read-join32
     add-join32
     shared-slice-read-join32-2
@@ -59,6 +64,4 @@ tag-at-spec =
     add-join32-3
     shared-slice-read-join32-4
     join32-requires
-    returns
-    be32-requires
     returns-2)

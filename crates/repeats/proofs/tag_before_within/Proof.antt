@@ -1,0 +1,62 @@
+-- The records that are left decide, four at a time and then the rest. Assumes nothing.
+use Prim.Native.Nat.{_≤_}
+use mathlib.Core.Path.{_≡_, refl}
+use borrow.Author.Needs.{needs}
+use Rattle.repeats.specs.Repeats.{tagBefore}
+use Rattle.repeats.proofs.RepeatLaws as laws
+use Rattle.repeats.proofs.tag_before_within.Statement.{statement}
+use Rattle.repeats.proofs.tag_before_within.Tie as tie
+use Rattle.repeats.proofs.tag_before_within.Reads as reads
+use Rattle.repeats.proofs.tag_before_within.Lts as lts
+use Rattle.repeats.proofs.tag_before_near.Reads as tag-before-near-reads
+use Rattle.repeats.proofs.tag_in_4.Reads as tag-in-4-reads
+use Rattle.format.proofs.places.Section.index_record.Reads as index-record-reads
+
+abbrev Inv-loop : tie.InvT-loop
+Inv-loop s section i tag low k₀ k = (k ≤ i) × (tagBefore s section i tag ≡ tagBefore s section k tag)
+
+abbrev μ-loop : tie.MeasureT-loop
+μ-loop s section i tag low k₀ k = k
+
+cast-low : tie.Need-cast-low Inv-loop μ-loop
+cast-low c = search needs
+
+loop-holds : tie.Need-loop-holds Inv-loop μ-loop
+loop-holds c = (search needs, refl)
+
+index-record-requires : tie.Need-index-record-requires Inv-loop μ-loop
+index-record-requires c κs = search needs
+
+tag-in-4-requires : tie.Need-tag-in-4-requires Inv-loop μ-loop
+tag-in-4-requires c κs = search needs
+
+returns : tie.Need-returns Inv-loop μ-loop
+returns c = search laws.ends-4
+
+loop-less : tie.Need-loop-less Inv-loop μ-loop
+loop-less c = search needs
+
+loop-again : tie.Need-loop-again Inv-loop μ-loop
+loop-again c = (search needs, search laws.turn-4)
+
+tag-before-near-requires : tie.Need-tag-before-near-requires Inv-loop μ-loop
+tag-before-near-requires c κs = search needs
+
+returns-2 : tie.Need-returns-2 Inv-loop μ-loop
+returns-2 c = search laws.left
+
+pub tag-before-within-spec : {M : Type 1} → statement M
+tag-before-within-spec =
+    tie.close
+    (tie.spec
+    Inv-loop
+    μ-loop
+    cast-low
+    loop-holds
+    index-record-requires
+    tag-in-4-requires
+    returns
+    loop-less
+    loop-again
+    tag-before-near-requires
+    returns-2)

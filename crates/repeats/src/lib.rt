@@ -1,0 +1,111 @@
+// A tag that occurs twice in one structure: check 13.
+ghost use mathlib.Core.Path.{_≡_};
+ghost use Prim.Native.Nat.{_+_, _%_, _≤_};
+ghost use lib.ListN.{length};
+ghost use lib.Dec.{eqb};
+ghost use Rattle.be.specs.Numbers.{be32At};
+ghost use Rattle.format.specs.Places.{recordPlace};
+ghost use Rattle.repeats.specs.Repeats.{tagAmong, tagBefore};
+use format::Section;
+
+// The tag of record `i`. For one of the first `n`, where the slice has those whole, it is read at once.
+pub fn tag_at(s: &[u8], section: Section, n: u32, i: u32) -> u32
+    ensures { λ r. ⌜ r ≡ be32At (now (s .entry)) (recordPlace section i) ⌝ }
+{
+    let end = section.index_record(n);
+    let place = section.index_record(i);
+    let at = place.0;
+    if end.0 <= s.len() {
+        if i < n {
+            return be::join32(s[at], s[at + 1], s[at + 2], s[at + 3]);
+        }
+    }
+    be::be32(s, at)
+}
+
+// Whether the record at a place has the tag, whose last byte is `low`. Most tags differ in it.
+fn tag_is(s: &[u8], at: usize, low: u8, tag: u32) -> bool
+    requires { ⌜ (at + 4 ≤ length (now s)) × (low ≡ tag % 256) ⌝ }
+    ensures { λ r. ⌜ r ≡ eqb (be32At (now (s .entry)) at) tag ⌝ }
+{
+    if s[at + 3] != low {
+        return false;
+    }
+    be::join32(s[at], s[at + 1], s[at + 2], s[at + 3]) == tag
+}
+
+// Whether one of the four records from a place on has the tag.
+fn tag_in_4(s: &[u8], at: usize, low: u8, tag: u32) -> bool
+    requires { ⌜ (at + 64 ≤ length (now s)) × (low ≡ tag % 256) ⌝ }
+    ensures { λ r. ⌜ r ≡ tagAmong (now (s .entry)) at 4 tag ⌝ }
+{
+    if tag_is(s, at + 48, low, tag) {
+        return true;
+    }
+    if tag_is(s, at + 32, low, tag) {
+        return true;
+    }
+    if tag_is(s, at + 16, low, tag) {
+        return true;
+    }
+    tag_is(s, at, low, tag)
+}
+
+// Whether one of the first `i` records has the tag (check 13), in a slice that may end before them.
+fn tag_before_cut(s: &[u8], section: Section, i: u32, tag: u32) -> bool
+    ensures { λ r. ⌜ r ≡ tagBefore (now (s .entry)) section i tag ⌝ }
+{
+    let mut k = i;
+    while 0 < k {
+        k -= 1;
+        if tag_at(s, section, i, k) == tag {
+            return true;
+        }
+    }
+    false
+}
+
+// The same in a slice that has them.
+fn tag_before_near(s: &[u8], section: Section, i: u32, tag: u32) -> bool
+    requires { ⌜ recordPlace section i ≤ length (now s) ⌝ }
+    ensures { λ r. ⌜ r ≡ tagBefore (now (s .entry)) section i tag ⌝ }
+{
+    let low = (tag % 256) as u8;
+    let mut k = i;
+    while 0 < k {
+        k -= 1;
+        let place = section.index_record(k);
+        if tag_is(s, place.0, low, tag) {
+            return true;
+        }
+    }
+    false
+}
+
+// The same, by fours.
+fn tag_before_within(s: &[u8], section: Section, i: u32, tag: u32) -> bool
+    requires { ⌜ recordPlace section i ≤ length (now s) ⌝ }
+    ensures { λ r. ⌜ r ≡ tagBefore (now (s .entry)) section i tag ⌝ }
+{
+    let low = (tag % 256) as u8;
+    let mut k = i;
+    while 4 <= k {
+        k -= 4;
+        let place = section.index_record(k);
+        if tag_in_4(s, place.0, low, tag) {
+            return true;
+        }
+    }
+    tag_before_near(s, section, k, tag)
+}
+
+// Whether one of the first `i` records has the tag.
+pub fn tag_before(s: &[u8], section: Section, i: u32, tag: u32) -> bool
+    ensures { λ r. ⌜ r ≡ tagBefore (now (s .entry)) section i tag ⌝ }
+{
+    let end = section.index_record(i);
+    if s.len() < end.0 {
+        return tag_before_cut(s, section, i, tag);
+    }
+    tag_before_within(s, section, i, tag)
+}
