@@ -2,10 +2,10 @@
 ghost use mathlib.Core.Path.{_≡_};
 ghost use Rattle.index.specs.Lookup.{extentTo, entryOf, findIn};
 use entries::data_end;
-use repeats::tag_at;
 use format::FileOffset;
 use format::IndexRecord;
 use format::Section;
+use repeats::tag_at;
 use strings::Ending;
 
 // An entry: its type and count, where its data starts in the file, and how many bytes it has.

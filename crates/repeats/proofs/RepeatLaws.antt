@@ -7,11 +7,11 @@ use mathlib.Core.Bool.{Bool, true, false, _||_}
 use lib.ListN.{getD}
 use lib.Dec.{eqb}
 use native.Mathlib.Omega.{arith}
-use borrow.Author.Tests.{eq-eqb, ne-eqb}
+use borrow.Author.Tests.{eq-eqb, ne-eqb, eqb-false}
 use Rattle.be.specs.Numbers.{be32At}
 use Rattle.format.specs.declared.places.Section.{Section}
 use Rattle.format.specs.Places.{recordPlace}
-use Rattle.repeats.specs.Repeats.{tagAmong, tagBefore}
+use Rattle.repeats.specs.Repeats.{lowAmong, tagAmong, tagBefore}
 
 -- a number read at a place
 pub placed : (s : List ℕ) {r at place : ℕ} → r ≡ be32At s at → at ≡ place → r ≡ be32At s place
@@ -61,6 +61,34 @@ or-4 false false true d t = refl
 or-4 false false false true t = refl
 or-4 false false false false t = refl
 
+-- the four last bytes, for each way through the tests of them
+module _ (s : List ℕ) (at low : ℕ) where
+  pub low-first : getD s (at + 3) 0 ≡ low → true ≡ lowAmong s at low
+  unfolding lowAmong
+  low-first h = rw (eq-eqb (getD s (at + 3) 0) low h)
+
+  module _ (h : getD s (at + 3) 0 ≡ low → ⊥) where
+    pub low-second : getD s (at + 19) 0 ≡ low → true ≡ lowAmong s at low
+    unfolding lowAmong
+    low-second k = rw (ne-eqb (getD s (at + 3) 0) low h, eq-eqb (getD s (at + 19) 0) low k)
+
+    module _ (k : getD s (at + 19) 0 ≡ low → ⊥) where
+      pub low-third : getD s (at + 35) 0 ≡ low → true ≡ lowAmong s at low
+      unfolding lowAmong
+      low-third m = rw (ne-eqb (getD s (at + 3) 0) low h, ne-eqb (getD s (at + 19) 0) low k, eq-eqb (getD s (at + 35) 0) low m)
+
+      pub low-last : (getD s (at + 35) 0 ≡ low → ⊥) → eqb (getD s (at + 51) 0) low ≡ lowAmong s at low
+      unfolding lowAmong
+      low-last m = rw (ne-eqb (getD s (at + 3) 0) low h, ne-eqb (getD s (at + 19) 0) low k, ne-eqb (getD s (at + 35) 0) low m)
+
+-- where none of the four has the last byte, none has the tag
+or-parts : (a b c d : Bool) → (a || (b || (c || d))) ≡ false → (a ≡ false) × ((b ≡ false) × ((c ≡ false) × (d ≡ false)))
+or-parts true b c d h = let z : _≡_ {A = ℕ} 0 1 = cc in absurd (omega arith)
+or-parts false true c d h = let z : _≡_ {A = ℕ} 0 1 = cc in absurd (omega arith)
+or-parts false false true d h = let z : _≡_ {A = ℕ} 0 1 = cc in absurd (omega arith)
+or-parts false false false true h = let z : _≡_ {A = ℕ} 0 1 = cc in absurd (omega arith)
+or-parts false false false false h = (refl, (refl, (refl, refl)))
+
 -- the four tests, for each way through them
 module _ (s : List ℕ) (at tag : ℕ) {a : Bool} (p : a ≡ eqb (be32At s (at + 48)) tag) where
   pub four-first : a ≡ true → true ≡ tagAmong s at 4 tag
@@ -78,6 +106,19 @@ module _ (s : List ℕ) (at tag : ℕ) {a : Bool} (p : a ≡ eqb (be32At s (at +
       four-last {d} w m =
           let z : at + 0 ≡ at = omega arith in
           sym (among-4 s at tag ∙ rw (← p, ← q, ← r, h, k, m, z, ← w) (or-false d))
+
+no-tag : (s : List ℕ) (at tag low : ℕ) → low ≡ tag % 256 → ((n : ℕ) → getD s n 0 < 256) → lowAmong s at low ≡ false
+    → tagAmong s at 4 tag ≡ false
+unfolding lowAmong
+no-tag s at tag low m b h =
+    let q = or-parts (eqb (getD s (at + 3) 0) low) (eqb (getD s (at + 19) 0) low) (eqb (getD s (at + 35) 0) low) (eqb (getD s (at + 51) 0) low) h in
+    among-4 s at tag
+    ∙ rw (other 48 (q .1 .1 .1), other 32 (q .1 .1 .0), other 16 (q .1 .0), other 0 (q .0))
+  where
+    other : (n : ℕ) → eqb (getD s (at + (n + 3)) 0) low ≡ false → eqb (be32At s (at + n)) tag ≡ false
+    other n e =
+        let z : at + (n + 3) ≡ at + n + 3 = omega arith in
+        sym (low-differs s (at + n) tag m (b (at + n + 3)) (λ r. eqb-false (getD s (at + (n + 3)) 0) low e (rw z r)))
 
 module _ (s : List ℕ) (section : Section) (tag k : ℕ) {v : Bool} (inv : v ≡ tagBefore s section k tag) where
   pub turn : {r : ℕ} → r ≡ be32At s (recordPlace section (k - 1)) → (r ≡ tag → ⊥) → 0 < k
@@ -134,6 +175,11 @@ module _ (s : List ℕ) (section : Section) (tag k : ℕ) {v : Bool} (inv : v �
 
     pub ends-4 : r ≡ true → true ≡ v
     ends-4 h = sym (found-4 ∙ rw h)
+
+  -- none of the four before k has the last byte
+  pub turn-low-4 : {at low : ℕ} {r : Bool} → at ≡ recordPlace section (k - 4) → low ≡ tag % 256
+      → ((n : ℕ) → getD s n 0 < 256) → r ≡ lowAmong s at low → r ≡ false → 4 ≤ k → v ≡ tagBefore s section (k - 4) tag
+  turn-low-4 {at} {low} d m b p h l = turn-4 d refl l (no-tag s at tag low m b (sym p ∙ h))
 
   pub left : {r : Bool} → r ≡ tagBefore s section k tag → r ≡ v
   left p = p ∙ sym inv

@@ -2,6 +2,7 @@
 use Prim.Native.Nat.{ℕ, zero, suc, _+_, _*_}
 use mathlib.Core.List.{List}
 use mathlib.Core.Bool.{Bool, false, _||_}
+use lib.ListN.{getD}
 use lib.Dec.{eqb}
 use Rattle.be.specs.Numbers.{be32At}
 use Rattle.format.specs.declared.places.Section.{Section}
@@ -11,6 +12,11 @@ use Rattle.format.specs.Places.{recordPlace}
 unfoldable pub tagAmong : List ℕ → ℕ → ℕ → ℕ → Bool
 tagAmong s at zero tag = false
 tagAmong s at (suc n) tag = eqb (be32At s (at + 16 * n)) tag || tagAmong s at n tag
+
+-- one of four records from a place on has a tag with a last byte
+unfoldable pub lowAmong : List ℕ → ℕ → ℕ → Bool
+lowAmong s at low =
+    eqb (getD s (at + 3) 0) low || (eqb (getD s (at + 19) 0) low || (eqb (getD s (at + 35) 0) low || eqb (getD s (at + 51) 0) low))
 
 -- 13 | tag of an earlier record: one of the first i
 unfoldable pub tagBefore : List ℕ → Section → ℕ → ℕ → Bool

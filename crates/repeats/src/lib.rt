@@ -5,7 +5,7 @@ ghost use lib.ListN.{length};
 ghost use lib.Dec.{eqb};
 ghost use Rattle.be.specs.Numbers.{be32At};
 ghost use Rattle.format.specs.Places.{recordPlace};
-ghost use Rattle.repeats.specs.Repeats.{tagAmong, tagBefore};
+ghost use Rattle.repeats.specs.Repeats.{lowAmong, tagAmong, tagBefore};
 use format::Section;
 
 // The tag of record `i`. For one of the first `n`, where the slice has those whole, it is read at once.
@@ -32,6 +32,23 @@ fn tag_is(s: &[u8], at: usize, low: u8, tag: u32) -> bool
         return false;
     }
     be::join32(s[at], s[at + 1], s[at + 2], s[at + 3]) == tag
+}
+
+// Whether the tag of one of the four records from a place on has the last byte.
+fn low_in_4(s: &[u8], at: usize, low: u8) -> bool
+    requires { ⌜ at + 64 ≤ length (now s) ⌝ }
+    ensures { λ r. ⌜ r ≡ lowAmong (now (s .entry)) at low ⌝ }
+{
+    if s[at + 3] == low {
+        return true;
+    }
+    if s[at + 19] == low {
+        return true;
+    }
+    if s[at + 35] == low {
+        return true;
+    }
+    s[at + 51] == low
 }
 
 // Whether one of the four records from a place on has the tag.
@@ -92,8 +109,10 @@ fn tag_before_within(s: &[u8], section: Section, i: u32, tag: u32) -> bool
     while 4 <= k {
         k -= 4;
         let place = section.index_record(k);
-        if tag_in_4(s, place.0, low, tag) {
-            return true;
+        if low_in_4(s, place.0, low) {
+            if tag_in_4(s, place.0, low, tag) {
+                return true;
+            }
         }
     }
     tag_before_near(s, section, k, tag)

@@ -6,10 +6,6 @@ use Rattle.repeats.proofs.RepeatLaws as laws
 use borrow.Author.Needs.{needs}
 use Rattle.repeats.proofs.tag_before_near.Statement.{statement}
 use Rattle.repeats.proofs.tag_before_near.Tie as tie
-use Rattle.repeats.proofs.tag_before_near.Reads as reads
-use Rattle.repeats.proofs.tag_before_near.Lts as lts
-use Rattle.repeats.proofs.tag_is.Reads as tag-is-reads
-use Rattle.format.proofs.places.Section.index_record.Reads as index-record-reads
 
 abbrev Inv-loop : tie.InvT-loop
 Inv-loop s section i tag low k₀ k = (k ≤ i) × (tagBefore s section i tag ≡ tagBefore s section k tag)

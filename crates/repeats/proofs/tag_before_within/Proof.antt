@@ -1,16 +1,12 @@
 -- The records that are left decide, four at a time and then the rest. Assumes nothing.
 use Prim.Native.Nat.{_≤_}
 use mathlib.Core.Path.{_≡_, refl}
+use native.Mathlib.Omega.{arith}
 use borrow.Author.Needs.{needs}
 use Rattle.repeats.specs.Repeats.{tagBefore}
 use Rattle.repeats.proofs.RepeatLaws as laws
 use Rattle.repeats.proofs.tag_before_within.Statement.{statement}
 use Rattle.repeats.proofs.tag_before_within.Tie as tie
-use Rattle.repeats.proofs.tag_before_within.Reads as reads
-use Rattle.repeats.proofs.tag_before_within.Lts as lts
-use Rattle.repeats.proofs.tag_before_near.Reads as tag-before-near-reads
-use Rattle.repeats.proofs.tag_in_4.Reads as tag-in-4-reads
-use Rattle.format.proofs.places.Section.index_record.Reads as index-record-reads
 
 abbrev Inv-loop : tie.InvT-loop
 Inv-loop s section i tag low k₀ k = (k ≤ i) × (tagBefore s section i tag ≡ tagBefore s section k tag)
@@ -27,6 +23,9 @@ loop-holds c = (search needs, refl)
 index-record-requires : tie.Need-index-record-requires Inv-loop μ-loop
 index-record-requires c κs = search needs
 
+low-in-4-requires : tie.Need-low-in-4-requires Inv-loop μ-loop
+low-in-4-requires c κs = search needs
+
 tag-in-4-requires : tie.Need-tag-in-4-requires Inv-loop μ-loop
 tag-in-4-requires c κs = search needs
 
@@ -38,6 +37,21 @@ loop-less c = search needs
 
 loop-again : tie.Need-loop-again Inv-loop μ-loop
 loop-again c = (search needs, search laws.turn-4)
+
+loop-less-2 : tie.Need-loop-less-2 Inv-loop μ-loop
+loop-less-2 c = search needs
+
+loop-again-2 : tie.Need-loop-again-2 Inv-loop μ-loop
+loop-again-2 c =
+    let at-place = c .before .before in
+    let known = at-place .before .before .before in (
+      search needs,
+      laws.turn-low-4 _ _ _ _ (at-place .before .before .loop .inv .1) (at-place .index-record .ensures) refl
+          (λ n. omega (arith, known .shared-slice-known .given n))
+          (c .before .low-in-4 .ensures)
+          (c .if1 .left)
+          (search needs),
+    )
 
 tag-before-near-requires : tie.Need-tag-before-near-requires Inv-loop μ-loop
 tag-before-near-requires c κs = search needs
@@ -54,9 +68,12 @@ tag-before-within-spec =
     cast-low
     loop-holds
     index-record-requires
+    low-in-4-requires
     tag-in-4-requires
     returns
     loop-less
     loop-again
+    loop-less-2
+    loop-again-2
     tag-before-near-requires
     returns-2)

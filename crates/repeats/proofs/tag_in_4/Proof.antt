@@ -3,9 +3,6 @@ use Rattle.repeats.proofs.RepeatLaws as laws
 use borrow.Author.Needs.{needs}
 use Rattle.repeats.proofs.tag_in_4.Statement.{statement}
 use Rattle.repeats.proofs.tag_in_4.Tie as tie
-use Rattle.repeats.proofs.tag_in_4.Reads as reads
-use Rattle.repeats.proofs.tag_in_4.Lts as lts
-use Rattle.repeats.proofs.tag_is.Reads as tag-is-reads
 
 add-tag-is : tie.Need-add-tag-is
 add-tag-is c = search needs

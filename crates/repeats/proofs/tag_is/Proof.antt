@@ -5,9 +5,6 @@ use Rattle.repeats.proofs.RepeatLaws as laws
 use borrow.Author.Needs.{needs}
 use Rattle.repeats.proofs.tag_is.Statement.{statement}
 use Rattle.repeats.proofs.tag_is.Tie as tie
-use Rattle.repeats.proofs.tag_is.Reads as reads
-use Rattle.repeats.proofs.tag_is.Lts as lts
-use Rattle.be.proofs.join32.Reads as join32-reads
 
 add-if1 : tie.Need-add-if1
 add-if1 c = search needs
