@@ -61,7 +61,10 @@ module _ (hasLine : Line → Bool) (look : Look) where
   all-pass : (n i : ℕ) → linesFrom lineAt hasLine look n i ≡ Pass → (k : ℕ) → i ≤ k → k < i + n → LinePasses hasLine look k
   all-pass zero i h k l m = absurd (omega arith)
   all-pass (suc n) i h k l m =
-      let p = both-inverted (lineIf hasLine look (lineAt i)) (linesFrom lineAt hasLine look n (i + 1)) (sym (step lineAt hasLine look n i) ∙ h) in
+      let p =
+      both-inverted (lineIf hasLine look (lineAt i)) (linesFrom lineAt hasLine look n (i + 1))
+      (sym (step lineAt hasLine look n i) ∙ h)
+      in
       from-next (λ (j : ℕ). j < i + suc n → LinePasses hasLine look j) (λ q. p .0)
       (λ j r q. all-pass n (i + 1) (p .1) j r (omega arith)) k l m
 
@@ -131,16 +134,20 @@ lines-in-order hasLine signature header number tag h = go (linesFrom lineAt hasL
           tagged = line-place hasLine header (lineAt (f .line)) (f .refused);
           refused = f .refused;
           signatures = λ i l. all-pass hasLine signature signatureCount 0 e i (omega arith) l;
-          lower = λ i l m t. lower hasLine header (lineCount - signatureCount) signatureCount number tag f (λ a b p q r. lawful .headerRises a b p q r) i l m t;
+          lower = λ i l m t.
+              lower hasLine header (lineCount - signatureCount) signatureCount number tag f
+              (λ a b p q r. lawful .headerRises a b p q r) i l m t;
         })
     go (Fail a b) e =
-        let f = first hasLine signature signatureCount 0 number tag (e ∙ sym (both-fail (linesFrom lineAt hasLine header (lineCount - signatureCount) signatureCount) e) ∙ h) in
+        let behind = linesFrom lineAt hasLine header (lineCount - signatureCount) signatureCount in
+        let f = first hasLine signature signatureCount 0 number tag (e ∙ sym (both-fail behind e) ∙ h) in
         inl (record {
           line = f .line;
           within = f .within;
           tagged = line-place hasLine signature (lineAt (f .line)) (f .refused);
           refused = f .refused;
-          lower = λ i l t. lower hasLine signature signatureCount 0 number tag f (λ a b p q r. lawful .signatureRises a b q r) i (omega arith) l t;
+          lower = λ i l t.
+              lower hasLine signature signatureCount 0 number tag f (λ a b p q r. lawful .signatureRises a b q r) i (omega arith) l t;
         })
 
 -- the two tests of a type, by the types it may be: char, int8, int16, int32, string, bin, string array, translated string

@@ -71,7 +71,8 @@ fn sum_check(edition: u32, pkg: &[u8], header: Section, sum: u64) -> Verdict
 
 // Checks 19 to 24 for a book.
 fn weigh_book(edition: u32, pkg: &[u8], header: Section, room: usize, bytes: &[u8]) -> Weighing
-    ensures { λ r. ⌜ r ≡ weighingAs (bookPart (editionOf edition) (now (pkg .entry)) header room (now (bytes .entry))) (length (doses (now (bytes .entry)))) ⌝ }
+    ensures { λ r. ⌜ r ≡ weighingAs (bookPart (editionOf edition) (now (pkg .entry)) header room (now (bytes .entry)))
+        (length (doses (now (bytes .entry)))) ⌝ }
 {
     let w = book::weigh(edition, bytes);
     match w {
@@ -100,7 +101,8 @@ pub(crate) fn weigh(
     bytes: &[u8],
 ) -> Weighing
     requires { ⌜ length (now pkg) ≤ packageLimit ⌝ }
-    ensures { λ r. ⌜ r ≡ weighingAs (openedCheck (editionOf edition) (now (pkg .entry)) signature header room (now (bytes .entry))) (length (doses (now (bytes .entry)))) ⌝ }
+    ensures { λ r. ⌜ r ≡ weighingAs (openedCheck (editionOf edition) (now (pkg .entry)) signature header room (now (bytes .entry)))
+        (length (doses (now (bytes .entry)))) ⌝ }
 {
     let v = rules::check(edition, pkg, pkg.len() as u32, signature, header);
     if let Verdict::Fail(number, place) = v {

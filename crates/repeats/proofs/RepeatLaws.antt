@@ -111,7 +111,10 @@ no-tag : (s : List ℕ) (at tag low : ℕ) → low ≡ tag % 256 → ((n : ℕ) 
     → tagAmong s at 4 tag ≡ false
 unfolding lowAmong
 no-tag s at tag low m b h =
-    let q = or-parts (eqb (getD s (at + 3) 0) low) (eqb (getD s (at + 19) 0) low) (eqb (getD s (at + 35) 0) low) (eqb (getD s (at + 51) 0) low) h in
+    let q =
+    or-parts (eqb (getD s (at + 3) 0) low) (eqb (getD s (at + 19) 0) low) (eqb (getD s (at + 35) 0) low)
+    (eqb (getD s (at + 51) 0) low) h
+    in
     among-4 s at tag
     ∙ rw (other 48 (q .1 .1 .1), other 32 (q .1 .1 .0), other 16 (q .1 .0), other 0 (q .0))
   where
@@ -157,8 +160,12 @@ module _ (s : List ℕ) (section : Section) (tag k : ℕ) {v : Bool} (inv : v �
         let c : recordPlace section (suc (k - 4)) ≡ at + 16 = omega arith in
         let e : recordPlace section (k - 4) ≡ at + 0 = omega arith in
         inv ∙ ap (λ (n : ℕ). tagBefore s section n tag) j ∙ step-4 s section tag (k - 4)
-        ∙ ap (λ (x : ℕ). has x || (has (recordPlace section (suc (suc (k - 4)))) || (has (recordPlace section (suc (k - 4))) || (has (recordPlace section (k - 4)) || rest)))) a
-        ∙ ap (λ (x : ℕ). has (at + 48) || (has x || (has (recordPlace section (suc (k - 4))) || (has (recordPlace section (k - 4)) || rest)))) b
+        ∙ ap
+        (λ (x : ℕ). has x || (has (recordPlace section (suc (suc (k - 4))))
+        || (has (recordPlace section (suc (k - 4))) || (has (recordPlace section (k - 4)) || rest)))) a
+        ∙ ap
+        (λ (x : ℕ). has (at + 48) || (has x || (has (recordPlace section (suc (k - 4))) || (has (recordPlace section (k - 4)) || rest))))
+        b
         ∙ ap (λ (x : ℕ). has (at + 48) || (has (at + 32) || (has x || (has (recordPlace section (k - 4)) || rest)))) c
         ∙ ap (λ (x : ℕ). has (at + 48) || (has (at + 32) || (has (at + 16) || (has x || rest)))) e
         ∙ sym (or-4 (has (at + 48)) (has (at + 32)) (has (at + 16)) (has (at + 0)) rest)

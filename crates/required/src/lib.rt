@@ -31,7 +31,8 @@ impl Require {
 
 // The version beside the first of the names that is the lent one.
 fn beside(pkg: &[u8], name: &[u8], names: Entry, versions: Entry) -> Sought
-    requires { ⌜ (SoundEntry (now pkg) packageLimit names) × (SoundEntry (now pkg) packageLimit versions) × (elementSize (names .ty) ≡ ToZero) ⌝ }
+    requires { ⌜ (SoundEntry (now pkg) packageLimit names) × (SoundEntry (now pkg) packageLimit versions)
+        × (elementSize (names .ty) ≡ ToZero) ⌝ }
     ensures { λ r. ⌜ r ≡ versionFrom (now (pkg .entry)) (now (name .entry)) names versions (names .count) 0 ⌝ }
 {
     let mut at = names.at.0;

@@ -42,7 +42,8 @@ fn check_gathered(
     first: &[u32; Table::NUMBERS],
     second: &[u32; Table::NUMBERS],
 ) -> Verdict
-    ensures { λ r. ⌜ r ≡ rulesOver (inEdition edition) (now (pkg .entry)) len signature header (shownBy (now (first .entry))) (shownBy (now (second .entry))) ⌝ }
+    ensures { λ r. ⌜ r ≡ rulesOver (inEdition edition) (now (pkg .entry)) len signature header
+        (shownBy (now (first .entry))) (shownBy (now (second .entry))) ⌝ }
 {
     let v = lines::check(edition, first, second);
     if let Verdict::Fail(number, place) = v {

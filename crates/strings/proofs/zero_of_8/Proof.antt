@@ -6,133 +6,140 @@ use Rattle.strings.proofs.zero_of_8.Tie as tie
 use Rattle.strings.proofs.zero_of_8.Reads as reads
 use Rattle.strings.proofs.zero_of_8.Lts as lts
 
--- src/lib.rt:144:8
 shared-slice-read-if1 : tie.Need-shared-slice-read-if1
 shared-slice-read-if1 c = search needs
 
--- src/lib.rt:145:9
 returns : tie.Need-returns
 returns c = laws.first-here _ 7 _ (search)
 
--- src/lib.rt:147:10
 add-if2 : tie.Need-add-if2
 add-if2 c = search needs
 
--- src/lib.rt:147:8
 shared-slice-read-if2 : tie.Need-shared-slice-read-if2
 shared-slice-read-if2 c = search needs
 
--- src/lib.rt:148:16
 add-result : tie.Need-add-result
 add-result c = search needs
 
--- src/lib.rt:148:9
 returns-2 : tie.Need-returns-2
 returns-2 c = laws.first-later _ 7 _ (search) (laws.behind-here _ 6 1 _ (search))
 
--- src/lib.rt:150:10
 add-if3 : tie.Need-add-if3
 add-if3 c = search needs
 
--- src/lib.rt:150:8
 shared-slice-read-if3 : tie.Need-shared-slice-read-if3
 shared-slice-read-if3 c = search needs
 
--- src/lib.rt:151:16
 add-result-2 : tie.Need-add-result-2
 add-result-2 c = search needs
 
--- src/lib.rt:151:9
 returns-3 : tie.Need-returns-3
 returns-3 c = laws.first-later _ 7 _ (search) (laws.behind-later _ 6 1 _ (search) (laws.behind-here _ 5 2 _ (search)))
 
--- src/lib.rt:153:10
 add-if4 : tie.Need-add-if4
 add-if4 c = search needs
 
--- src/lib.rt:153:8
 shared-slice-read-if4 : tie.Need-shared-slice-read-if4
 shared-slice-read-if4 c = search needs
 
--- src/lib.rt:154:16
 add-result-3 : tie.Need-add-result-3
 add-result-3 c = search needs
 
--- src/lib.rt:154:9
 returns-4 : tie.Need-returns-4
-returns-4 c = laws.first-later _ 7 _ (search) (laws.behind-later _ 6 1 _ (search) (laws.behind-later _ 5 2 _ (search) (laws.behind-here _ 4 3 _ (search))))
+returns-4 c =
+    laws.first-later _ 7 _ (search)
+    (laws.behind-later _ 6 1 _ (search)
+    (laws.behind-later _ 5 2 _ (search)
+    (laws.behind-here _ 4 3 _ (search))))
 
--- src/lib.rt:156:10
 add-if5 : tie.Need-add-if5
 add-if5 c = search needs
 
--- src/lib.rt:156:8
 shared-slice-read-if5 : tie.Need-shared-slice-read-if5
 shared-slice-read-if5 c = search needs
 
--- src/lib.rt:157:16
 add-result-4 : tie.Need-add-result-4
 add-result-4 c = search needs
 
--- src/lib.rt:157:9
 returns-5 : tie.Need-returns-5
-returns-5 c = laws.first-later _ 7 _ (search) (laws.behind-later _ 6 1 _ (search) (laws.behind-later _ 5 2 _ (search) (laws.behind-later _ 4 3 _ (search) (laws.behind-here _ 3 4 _ (search)))))
+returns-5 c =
+    laws.first-later _ 7 _ (search)
+    (laws.behind-later _ 6 1 _ (search)
+    (laws.behind-later _ 5 2 _ (search)
+    (laws.behind-later _ 4 3 _ (search)
+    (laws.behind-here _ 3 4 _ (search)))))
 
--- src/lib.rt:159:10
 add-if6 : tie.Need-add-if6
 add-if6 c = search needs
 
--- src/lib.rt:159:8
 shared-slice-read-if6 : tie.Need-shared-slice-read-if6
 shared-slice-read-if6 c = search needs
 
--- src/lib.rt:160:16
 add-result-5 : tie.Need-add-result-5
 add-result-5 c = search needs
 
--- src/lib.rt:160:9
 returns-6 : tie.Need-returns-6
-returns-6 c = laws.first-later _ 7 _ (search) (laws.behind-later _ 6 1 _ (search) (laws.behind-later _ 5 2 _ (search) (laws.behind-later _ 4 3 _ (search) (laws.behind-later _ 3 4 _ (search) (laws.behind-here _ 2 5 _ (search))))))
+returns-6 c =
+    laws.first-later _ 7 _ (search)
+    (laws.behind-later _ 6 1 _ (search)
+    (laws.behind-later _ 5 2 _ (search)
+    (laws.behind-later _ 4 3 _ (search)
+    (laws.behind-later _ 3 4 _ (search)
+    (laws.behind-here _ 2 5 _ (search))))))
 
--- src/lib.rt:162:10
 add-if7 : tie.Need-add-if7
 add-if7 c = search needs
 
--- src/lib.rt:162:8
 shared-slice-read-if7 : tie.Need-shared-slice-read-if7
 shared-slice-read-if7 c = search needs
 
--- src/lib.rt:163:16
 add-result-6 : tie.Need-add-result-6
 add-result-6 c = search needs
 
--- src/lib.rt:163:9
 returns-7 : tie.Need-returns-7
-returns-7 c = laws.first-later _ 7 _ (search) (laws.behind-later _ 6 1 _ (search) (laws.behind-later _ 5 2 _ (search) (laws.behind-later _ 4 3 _ (search) (laws.behind-later _ 3 4 _ (search) (laws.behind-later _ 2 5 _ (search) (laws.behind-here _ 1 6 _ (search)))))))
+returns-7 c =
+    laws.first-later _ 7 _ (search)
+    (laws.behind-later _ 6 1 _ (search)
+    (laws.behind-later _ 5 2 _ (search)
+    (laws.behind-later _ 4 3 _ (search)
+    (laws.behind-later _ 3 4 _ (search)
+    (laws.behind-later _ 2 5 _ (search)
+    (laws.behind-here _ 1 6 _ (search)))))))
 
--- src/lib.rt:165:10
 add-if8 : tie.Need-add-if8
 add-if8 c = search needs
 
--- src/lib.rt:165:8
 shared-slice-read-if8 : tie.Need-shared-slice-read-if8
 shared-slice-read-if8 c = search needs
 
--- src/lib.rt:166:16
 add-result-7 : tie.Need-add-result-7
 add-result-7 c = search needs
 
--- src/lib.rt:166:9
 returns-8 : tie.Need-returns-8
-returns-8 c = laws.first-later _ 7 _ (search) (laws.behind-later _ 6 1 _ (search) (laws.behind-later _ 5 2 _ (search) (laws.behind-later _ 4 3 _ (search) (laws.behind-later _ 3 4 _ (search) (laws.behind-later _ 2 5 _ (search) (laws.behind-later _ 1 6 _ (search) (laws.behind-here _ 0 7 _ (search))))))))
+returns-8 c =
+    laws.first-later _ 7 _ (search)
+    (laws.behind-later _ 6 1 _ (search)
+    (laws.behind-later _ 5 2 _ (search)
+    (laws.behind-later _ 4 3 _ (search)
+    (laws.behind-later _ 3 4 _ (search)
+    (laws.behind-later _ 2 5 _ (search)
+    (laws.behind-later _ 1 6 _ (search)
+    (laws.behind-here _ 0 7 _ (search))))))))
 
--- src/lib.rt:168:5
 add-result-8 : tie.Need-add-result-8
 add-result-8 c = search needs
 
--- src/lib.rt:140:1
 returns-9 : tie.Need-returns-9
-returns-9 c = laws.first-later _ 7 _ (search) (laws.behind-later _ 6 1 _ (search) (laws.behind-later _ 5 2 _ (search) (laws.behind-later _ 4 3 _ (search) (laws.behind-later _ 3 4 _ (search) (laws.behind-later _ 2 5 _ (search) (laws.behind-later _ 1 6 _ (search) (laws.behind-later _ 0 7 _ (search) (laws.first-none _ _))))))))
+returns-9 c =
+    laws.first-later _ 7 _ (search)
+    (laws.behind-later _ 6 1 _ (search)
+    (laws.behind-later _ 5 2 _ (search)
+    (laws.behind-later _ 4 3 _ (search)
+    (laws.behind-later _ 3 4 _ (search)
+    (laws.behind-later _ 2 5 _ (search)
+    (laws.behind-later _ 1 6 _ (search)
+    (laws.behind-later _ 0 7 _ (search)
+    (laws.first-none _ _))))))))
 
 pub zero-of-8-spec : {M : Type 1} → statement M
 zero-of-8-spec =
