@@ -21,6 +21,7 @@ use Rattle.entries.specs.Types.{elementSize, isLawful}
 use Rattle.format.specs.declared.verdict.Verdict.{Verdict}
 use Rattle.format.specs.declared.verdict.Verdict.the-variants.{Pass}
 use Rattle.format.specs.Verdicts.{check, both}
+use Rattle.format.proofs.RunLaws.{apart, apart-under}
 use Rattle.entries.specs.Entries.{typeLawful, countRight, alignedTo, isAligned, endFor, dataEnd}
 use Rattle.repeats.specs.Repeats.{tagBefore}
 use Rattle.entries.specs.Entries.{dataCheck, entryCheck}
@@ -128,19 +129,13 @@ pub sized : (ty : ℕ) {k size : ElementSize} → k ≡ elementSize ty → k ≡
 sized ty q h = sym h ∙ q
 
 -- 9 to 13 are 9 to 12, then 13
-chain : (a b c d : Bool) (place : ℕ) (rest : Verdict)
-    → check a 9 place (check b 10 place (check c 11 place (check d 12 place rest)))
-    ≡ both (check a 9 place (check b 10 place (check c 11 place (check d 12 place Pass)))) rest
-unfolding check both
-chain false b c d place rest = refl
-chain true false c d place rest = refl
-chain true true false d place rest = refl
-chain true true true false place rest = refl
-chain true true true true place rest = refl
-
 pub entry-as : (s : List ℕ) (section : Section) (i place : ℕ) (e : IndexRecord) (end : Ending)
     → entryCheck s section i place e end
     ≡ both (dataCheck place e end) (check (not (tagBefore s section i (e .tag))) 13 place Pass)
 unfolding entryCheck dataCheck
 entry-as s section i place e end =
-    chain (typeLawful e) (countRight e) (isAligned e) (isEnded end) place (check (not (tagBefore s section i (e .tag))) 13 place Pass)
+    let last = check (not (tagBefore s section i (e .tag))) 13 place Pass in
+    apart-under (typeLawful e) 9 place last _
+    (apart-under (countRight e) 10 place last _
+    (apart-under (isAligned e) 11 place last _
+    (apart (isEnded end) 12 place last)))

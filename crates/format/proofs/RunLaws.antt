@@ -1,11 +1,12 @@
--- Laws of a run of checks: one for each way through a turn of a loop over it (begun, turn, ends, spent), its first check (first), the
--- end of a run (both-end), and a run whose checks are others' (same-run).
+-- Laws of a run of checks: its first check (first) and its end (none, both-end, both-assoc), one for each way through a turn of
+-- a loop over it (begun, turn, ends, spent), and a ladder as a first part and the rest (apart, apart-under).
 use Prim.Native.Nat.{ℕ, zero, suc, _+_, _-_, _≤_, _<_}
 use mathlib.Core.Path.{_≡_, refl, sym, ap, _∙_}
+use mathlib.Core.Bool.{Bool, true, false}
 use native.Mathlib.Omega.{arith}
 use Rattle.format.specs.declared.verdict.Verdict.{Verdict}
 use Rattle.format.specs.declared.verdict.Verdict.the-variants.{Pass, Fail}
-use Rattle.format.specs.Verdicts.{both, runFrom}
+use Rattle.format.specs.Verdicts.{check, both, runFrom}
 use Rattle.format.proofs.VerdictLaws.{both-pass, both-fail}
 
 pub both-end : (v : Verdict) → both v Pass ≡ v
@@ -17,6 +18,18 @@ pub both-assoc : (u v w : Verdict) → both (both u v) w ≡ both u (both v w)
 unfolding both
 both-assoc Pass v w = refl
 both-assoc (Fail number place) v w = refl
+
+-- one rung and what follows it; and where what follows is apart, so is the whole under one rung more
+pub apart : (ok : Bool) (number place : ℕ) (rest : Verdict) → check ok number place rest ≡ both (check ok number place Pass) rest
+unfolding check both
+apart true number place rest = refl
+apart false number place rest = refl
+
+pub apart-under : (ok : Bool) (number place : ℕ) (rest part : Verdict) {whole : Verdict} → whole ≡ both part rest
+    → check ok number place whole ≡ both (check ok number place part) rest
+unfolding check both
+apart-under true number place rest part h = h
+apart-under false number place rest part h = refl
 
 module _ (checkAt : ℕ → Verdict) where
   pub first : (n i : ℕ) → runFrom checkAt (suc n) i ≡ both (checkAt i) (runFrom checkAt n (i + 1))

@@ -31,8 +31,8 @@ use Rattle.tags.specs.Tags.{Look, countIn}
 use Rattle.format.specs.declared.verdict.Verdict.{Verdict}
 use Rattle.format.specs.declared.verdict.Verdict.the-variants.{Pass, Fail}
 use Rattle.format.specs.Verdicts.{check, both, runFrom}
-use Rattle.format.proofs.VerdictLaws.{passed, stopped, told, untold}
-use Rattle.format.proofs.RunLaws.{turn, ends}
+use Rattle.format.proofs.VerdictLaws.{passed, stopped, told, untold, both-pass}
+use Rattle.format.proofs.RunLaws.{turn, ends, apart, both-assoc}
 use Rattle.texts.specs.Texts.{linux, binSh, textIs, programs, programCheck, programsCheck, allBelow, indexesBelow, slashesEnd}
 use Rattle.texts.specs.Texts.{directoriesEnd, textsCheck}
 
@@ -149,15 +149,13 @@ module _ (s : List ℕ) (header : Section) (look : Look) where
     pub program-ends : not r ≡ true → Fail 18 (getD programs i 0) ≡ v
     program-ends k = ends programAt 4 i inv (stopped Pass (untold p k)) h refl
 
-chain : (a b c d : Bool) (rest : Verdict)
-    → check a 18 1085 (check b 18 1086 (check c 18 1087 (check d 18 1088 rest)))
-    ≡ both (both (check a 18 1085 Pass) (both (check b 18 1086 Pass) (both (check c 18 1087 Pass) (both (check d 18 1088 Pass) Pass)))) rest
-unfolding check both
-chain false b c d rest = refl
-chain true false c d rest = refl
-chain true true false d rest = refl
-chain true true true false rest = refl
-chain true true true true rest = refl
+-- a rung before a run of checks is its first
+run-first : (ok : Bool) (number place : ℕ) (rest run : Verdict) {whole : Verdict} → whole ≡ both run rest
+    → check ok number place whole ≡ both (both (check ok number place Pass) run) rest
+run-first ok number place rest run {whole} h =
+    apart ok number place whole
+    ∙ ap (both (check ok number place Pass)) h
+    ∙ sym (both-assoc (check ok number place Pass) run rest)
 
 pub texts-as : (s : List ℕ) (header : Section) (look : Look) → textsCheck s header look
     ≡ check (textIs s header look linux 1021) 18 1021
@@ -167,6 +165,10 @@ pub texts-as : (s : List ℕ) (header : Section) (look : Look) → textsCheck s 
     Pass)))
 unfolding textsCheck runFrom
 texts-as s header look =
+    let rest = check (indexesBelow s header look) 18 1116 (check (directoriesEnd s header look) 18 1118 Pass) in
     ap (check (textIs s header look linux 1021) 18 1021)
-    (chain (textIs s header look binSh 1085) (textIs s header look binSh 1086) (textIs s header look binSh 1087)
-    (textIs s header look binSh 1088) (check (indexesBelow s header look) 18 1116 (check (directoriesEnd s header look) 18 1118 Pass)))
+    (run-first (textIs s header look binSh 1085) 18 1085 rest _
+    (run-first (textIs s header look binSh 1086) 18 1086 rest _
+    (run-first (textIs s header look binSh 1087) 18 1087 rest _
+    (run-first (textIs s header look binSh 1088) 18 1088 rest _
+    (sym (both-pass refl))))))

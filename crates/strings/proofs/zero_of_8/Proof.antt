@@ -3,8 +3,6 @@ use Rattle.strings.proofs.StringLaws as laws
 use borrow.Author.Needs.{needs}
 use Rattle.strings.proofs.zero_of_8.Statement.{statement}
 use Rattle.strings.proofs.zero_of_8.Tie as tie
-use Rattle.strings.proofs.zero_of_8.Reads as reads
-use Rattle.strings.proofs.zero_of_8.Lts as lts
 
 shared-slice-read-if1 : tie.Need-shared-slice-read-if1
 shared-slice-read-if1 c = search needs
