@@ -82,7 +82,7 @@ module _ (edition : Edition) (s : List ℕ) (signature header : Section)
 -- 16
 pub size-lawful : (s : List ℕ) (len : ℕ) (signature header : Section) → Apart s signature → HasTag s signature 1000
     → (sizeTagCheck s len signature header (taggedIn s signature) ≡ Pass)
-    ↔ NumberIs s signature 1000 (len - header .start)
+    ↔ NumberIs s signature 1000 (len - header .start .0)
 unfolding sizeTagCheck
 size-lawful s len signature header apart h = simp (last-iff, eqb-iff, number-iff s signature apart 1000) Iff·rfl
 

@@ -20,13 +20,14 @@ fn string_part(pkg: &[u8], entry: Entry, run: Ending) -> Entry
 {
     match run {
         Ending::Ends(from) => {
+            let place = FileOffset(from);
             let end = entry.at.0 + entry.extent;
-            let next = strings::strings_end(pkg, from, end, 1);
-            let extent = index::extent_to(from, next);
+            let next = place.strings_end(pkg, FileOffset(end), 1);
+            let extent = index::extent_to(place, next);
             Entry {
                 ty: entry.ty,
                 count: 1,
-                at: FileOffset(from),
+                at: place,
                 extent: extent,
             }
         }
@@ -62,7 +63,7 @@ fn element_of(pkg: &[u8], entry: Entry, k: u32) -> Entry
         }
         ElementSize::ToZero => {
             let end = at.0 + entry.extent;
-            let run = strings::strings_end(pkg, at.0, end, k);
+            let run = at.strings_end(pkg, FileOffset(end), k);
             string_part(pkg, entry, run)
         }
         ElementSize::Unlawful => Entry {

@@ -45,7 +45,7 @@ pub fn data_end(s: &[u8], section: Section, e: IndexRecord) -> Ending
         }
         ElementSize::ToZero => {
             let end = section.end();
-            strings::strings_end(s, from.0, end.0, e.count)
+            from.strings_end(s, end, e.count)
         }
         ElementSize::Unlawful => Ending::Open,
     }
@@ -81,7 +81,7 @@ fn strings_check(s: &[u8], section: Section, place: u32, e: IndexRecord) -> Verd
     }
     let from = e.offset.in_file(section);
     let to = section.end();
-    let end = strings::strings_end(s, from.0, to.0, e.count);
+    let end = from.strings_end(s, to, e.count);
     if !strings::ended(end) {
         return Verdict::Fail(12, place);
     }

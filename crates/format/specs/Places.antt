@@ -6,10 +6,10 @@ use Rattle.format.specs.declared.places.StoreOffset.{StoreOffset}
 use Rattle.format.specs.Sizes.{headerRecordSize, indexRecordSize}
 
 abbrev pub recordPlace : Section → ℕ → ℕ
-recordPlace section i = section .start + headerRecordSize + indexRecordSize * i
+recordPlace section i = section .start .0 + headerRecordSize + indexRecordSize * i
 
 abbrev pub storePlace : Section → ℕ
-storePlace section = section .start + headerRecordSize + indexRecordSize * section .nindex
+storePlace section = section .start .0 + headerRecordSize + indexRecordSize * section .nindex
 
 abbrev pub sectionEnd : Section → ℕ
 sectionEnd section = storePlace section + section .hsize

@@ -7,6 +7,7 @@ pub mod verdict;
 pub use lead::Lead;
 pub use places::FileOffset;
 pub use places::Section;
+pub use places::Start;
 pub use places::StoreOffset;
 pub use records::HeaderRecord;
 pub use records::IndexRecord;

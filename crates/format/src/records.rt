@@ -1,5 +1,9 @@
 // The header record and the index record.
 ghost use mathlib.Core.Path.{_≡_};
+ghost use Prim.Native.Nat.{_+_, _≤_};
+ghost use lib.ListN.{length};
+ghost use Rattle.be.specs.Numbers.{be32At};
+ghost use Rattle.format.specs.Sizes.{indexRecordSize};
 ghost use Rattle.format.specs.Records.{headerRecordAt, indexRecordAt};
 use crate::places::FileOffset;
 use crate::places::StoreOffset;
@@ -58,13 +62,13 @@ pub struct IndexRecord {
 impl IndexRecord {
     pub const SIZE: usize = 16;
 
-    pub const TAG: usize = 0;
+    pub const TAG: u32 = 0;
 
-    pub const TYPE: usize = 4;
+    pub const TYPE: u32 = 4;
 
-    pub const OFFSET: usize = 8;
+    pub const OFFSET: u32 = 8;
 
-    pub const COUNT: usize = 12;
+    pub const COUNT: u32 = 12;
 
     // The index record at a place of the file.
     pub fn at(pkg: &[u8], place: FileOffset) -> Self
@@ -80,10 +84,32 @@ impl IndexRecord {
             };
         }
         Self {
-            tag: be::be32(pkg, at + Self::TAG),
-            ty: be::be32(pkg, at + Self::TYPE),
-            offset: StoreOffset(be::be32(pkg, at + Self::OFFSET)),
-            count: be::be32(pkg, at + Self::COUNT),
+            tag: be::be32(pkg, at + Self::TAG as usize),
+            ty: be::be32(pkg, at + Self::TYPE as usize),
+            offset: StoreOffset(be::be32(pkg, at + Self::OFFSET as usize)),
+            count: be::be32(pkg, at + Self::COUNT as usize),
         }
     }
+
+    // The same where the package has it whole.
+    pub(crate) fn within(pkg: &[u8], place: FileOffset) -> Self
+        requires { ⌜ place .0 + indexRecordSize ≤ length (now pkg) ⌝ }
+        ensures { λ r. ⌜ r ≡ indexRecordAt (now (pkg .entry)) (place .0) ⌝ }
+    {
+        let at = place.0;
+        Self {
+            tag: number_within(pkg, at + Self::TAG as usize),
+            ty: number_within(pkg, at + Self::TYPE as usize),
+            offset: StoreOffset(number_within(pkg, at + Self::OFFSET as usize)),
+            count: number_within(pkg, at + Self::COUNT as usize),
+        }
+    }
+}
+
+// The 32-bit number at a place of a package that has it whole.
+pub(crate) fn number_within(pkg: &[u8], at: usize) -> u32
+    requires { ⌜ at + 4 ≤ length (now pkg) ⌝ }
+    ensures { λ r. ⌜ r ≡ be32At (now (pkg .entry)) at ⌝ }
+{
+    be::join32(pkg[at], pkg[at + 1], pkg[at + 2], pkg[at + 3])
 }

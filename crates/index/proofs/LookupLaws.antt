@@ -5,6 +5,7 @@ use mathlib.Core.List.{List}
 use mathlib.Core.Bool.{Bool, true, false, cond}
 use lib.Dec.{eqb}
 use native.Mathlib.Omega.{arith}
+use native.Mathlib.Nat.{add-zero}
 use borrow.Author.Tests.{eq-eqb, ne-eqb}
 use Rattle.strings.specs.declared.Ending.{Ending}
 use Rattle.strings.specs.declared.Ending.the-variants.{Ends, Open}
@@ -54,19 +55,22 @@ module _ (s : List ℕ) (section : Section) (tag ty : ℕ) where
 
 -- the same, in the shape of what is known in a turn: v is what the search began with, r the tag and e the record that were read
 module _ (s : List ℕ) (section : Section) (tag ty n i : ℕ) {v : Found} (inv : v ≡ findFrom s section (n - i) i tag ty)
-    (l : i < n) {r : ℕ} (p : r ≡ be32At s (recordPlace section i)) where
+    (l : i < n) {r : ℕ} (p : r ≡ be32At s (recordPlace section i + 0)) where
+  read : r ≡ be32At s (recordPlace section i)
+  read = p ∙ rw add-zero
+
   not-for : isFor tag ty (recordAt s section i) ≡ false → v ≡ findFrom s section (n - (i + 1)) (i + 1) tag ty
   not-for h = inv ∙ unrolled s section tag ty n i l ∙ rw h
 
   pub other-tag : (r ≡ tag → ⊥) → v ≡ findFrom s section (n - (i + 1)) (i + 1) tag ty
-  other-tag h = not-for (rw (ne-eqb (be32At s (recordPlace section i)) tag (λ q. h (p ∙ q))))
+  other-tag h = not-for (rw (ne-eqb (be32At s (recordPlace section i)) tag (λ q. h (read ∙ q))))
 
   module _ (h : r ≡ tag) {place : ℕ} (d : place ≡ recordPlace section i) {e : IndexRecord} (g : e ≡ indexRecordAt s place) where
     here : e ≡ recordAt s section i
     here = g ∙ ap (indexRecordAt s) d
 
     same-type : (b : Bool) → eqb (e .ty) ty ≡ b → isFor tag ty (recordAt s section i) ≡ b
-    same-type b k = rw (eq-eqb (be32At s (recordPlace section i)) tag (sym p ∙ h)) (rw here at k)
+    same-type b k = rw (eq-eqb (be32At s (recordPlace section i)) tag (sym read ∙ h)) (rw here at k)
 
     pub other-type : (e .ty ≡ ty → ⊥) → v ≡ findFrom s section (n - (i + 1)) (i + 1) tag ty
     other-type k = not-for (same-type false (ne-eqb (e .ty) ty k))

@@ -5,7 +5,6 @@ use entries::data_end;
 use format::FileOffset;
 use format::IndexRecord;
 use format::Section;
-use repeats::tag_at;
 use strings::Ending;
 
 // An entry: its type and count, where its data starts in the file, and how many bytes it has.
@@ -29,11 +28,11 @@ pub enum Tagged {
 }
 
 // How many bytes lie between a place and an end.
-pub fn extent_to(from: usize, end: Ending) -> usize
-    ensures { λ r. ⌜ r ≡ extentTo from end ⌝ }
+pub fn extent_to(from: FileOffset, end: Ending) -> usize
+    ensures { λ r. ⌜ r ≡ extentTo (from .0) end ⌝ }
 {
     match end {
-        Ending::Ends(to) => { if from <= to { to - from } else { 0 } }
+        Ending::Ends(to) => { if from.0 <= to { to - from.0 } else { 0 } }
         Ending::Open => 0,
     }
 }
@@ -43,7 +42,7 @@ pub fn entry_of(section: Section, e: IndexRecord, end: Ending) -> Entry
     ensures { λ r. ⌜ r ≡ entryOf section e end ⌝ }
 {
     let at = e.offset.in_file(section);
-    let extent = extent_to(at.0, end);
+    let extent = extent_to(at, end);
     Entry {
         ty: e.ty,
         count: e.count,
@@ -61,7 +60,7 @@ pub fn find(s: &[u8], section: Section, tag: u32, ty: u32) -> Found
     while next < n {
         let i = next;
         next += 1;
-        let here = tag_at(s, section, n, i);
+        let here = section.number(s, n, i, IndexRecord::TAG);
         if here == tag {
             let place = section.index_record(i);
             let e = IndexRecord::at(s, place);

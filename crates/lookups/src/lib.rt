@@ -39,7 +39,7 @@ pub fn shown(pkg: &[u8], found: Sought) -> &[u8]
     ensures { λ r. ⌜ now r ≡ soughtBytes (now (pkg .entry)) found ⌝ }
 {
     match found {
-        Sought::Here(entry) => be::part(pkg, entry.at.0, entry.extent),
+        Sought::Here(entry) => entry.at.part(pkg, entry.extent),
         Sought::Refused(_, _) => &pkg[..0],
     }
 }
@@ -50,7 +50,7 @@ pub fn find_in(pkg: &[u8], section: Section, tag: u32, ty: u32) -> &[u8]
 {
     let found = index::find(pkg, section, tag, ty);
     match found {
-        Found::At(entry) => be::part(pkg, entry.at.0, entry.extent),
+        Found::At(entry) => entry.at.part(pkg, entry.extent),
         Found::Nothing => &pkg[..0],
     }
 }

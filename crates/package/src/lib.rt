@@ -9,6 +9,7 @@ ghost use Rattle.package.specs.Package.{sizeCheck, headerStart, structur
 use format::FileOffset;
 use format::Lead;
 use format::Section;
+use format::Start;
 use format::Verdict;
 use structure::Checked;
 
@@ -60,12 +61,12 @@ fn lead_check(lead: Lead) -> Verdict
 }
 
 // Where the header starts: the first multiple of 8 at or after the signature's end.
-fn header_start(signature: Section) -> u32
+fn header_start(signature: Section) -> Start
     requires { ⌜ sectionEnd signature ≤ packageLimit ⌝ }
-    ensures { λ r. ⌜ r ≡ headerStart signature ⌝ }
+    ensures { λ r. ⌜ r .0 ≡ headerStart signature ⌝ }
 {
     let end = signature.end();
-    ((end.0 + 7) / 8 * 8) as u32
+    Start(((end.0 + 7) / 8 * 8) as u32)
 }
 
 // Checks 5 to 13 for the signature and then the header.
@@ -73,7 +74,7 @@ fn structures(pkg: &[u8], len: u32) -> Opened
     requires { ⌜ len ≤ packageLimit ⌝ }
     ensures { λ r. ⌜ r ≡ structuresOpened (now (pkg .entry)) len ⌝ }
 {
-    let first = structure::check(pkg, len, Lead::SIZE as u32);
+    let first = structure::check(pkg, len, Start(Lead::SIZE as u32));
     match first {
         Checked::Unsound(number, place) => Opened::Unsound(number, place),
         Checked::Sound(signature) => {

@@ -1,23 +1,19 @@
 -- Laws of `tagBefore` and `tagAmong`: a tag by its last byte (low-differs, joined), four records (four-first .. four-last), and
--- a turn of the loops over them, by how a tag was found (turn, ends; turn-is, ends-is; turn-4, ends-4; left, spent).
-use Prim.Native.Nat.{ℕ, suc, _+_, _-_, _*_, _%_, _≤_, _<_}
+-- a turn of the loops over them, by how a tag was found (turn, ends; turn-is, ends-is; turn-4, ends-4; last-4, spent).
+use Prim.Native.Nat.{ℕ, zero, suc, _+_, _-_, _*_, _%_, _≤_, _<_}
 use mathlib.Core.Path.{_≡_, refl, sym, ap, _∙_}
 use mathlib.Core.List.{List}
 use mathlib.Core.Bool.{Bool, true, false, _||_}
 use lib.ListN.{getD}
 use lib.Dec.{eqb}
 use native.Mathlib.Omega.{arith}
+use native.Mathlib.Nat.{add-zero}
 use borrow.Author.Tests.{eq-eqb, ne-eqb, eqb-false}
 use Rattle.be.specs.Numbers.{be32At}
 use Rattle.format.specs.declared.places.Section.{Section}
 use Rattle.format.specs.Places.{recordPlace}
 use Rattle.repeats.specs.Repeats.{lowAmong, tagAmong, tagBefore}
 
--- a number read at a place
-pub placed : (s : List ℕ) {r at place : ℕ} → r ≡ be32At s at → at ≡ place → r ≡ be32At s place
-placed s h e = h ∙ ap (be32At s) e
-
--- one of the first k records, in the shape of what is known in a turn: v is what the search began with, r the tag read
 low-byte : (s : List ℕ) (at tag : ℕ) → be32At s at ≡ tag → getD s (at + 3) 0 < 256 → getD s (at + 3) 0 ≡ tag % 256
 unfolding be32At
 low-byte s at tag q b = omega arith
@@ -38,12 +34,6 @@ step : (s : List ℕ) (section : Section) (tag k : ℕ)
 unfolding tagBefore
 step s section tag k = refl
 
-step-4 : (s : List ℕ) (section : Section) (tag k : ℕ) → tagBefore s section (suc (suc (suc (suc k)))) tag
-    ≡ (eqb (be32At s (recordPlace section (suc (suc (suc k))))) tag || (eqb (be32At s (recordPlace section (suc (suc k)))) tag
-    || (eqb (be32At s (recordPlace section (suc k))) tag || (eqb (be32At s (recordPlace section k)) tag || tagBefore s section k tag))))
-unfolding tagBefore
-step-4 s section tag k = refl
-
 among-4 : (s : List ℕ) (at tag : ℕ) → tagAmong s at 4 tag
     ≡ (eqb (be32At s (at + 48)) tag || (eqb (be32At s (at + 32)) tag
     || (eqb (be32At s (at + 16)) tag || (eqb (be32At s (at + 0)) tag || false))))
@@ -54,12 +44,23 @@ or-false : (b : Bool) → (b || false) ≡ b
 or-false true = refl
 or-false false = refl
 
-or-4 : (a b c d t : Bool) → ((a || (b || (c || (d || false)))) || t) ≡ (a || (b || (c || (d || t))))
-or-4 true b c d t = refl
-or-4 false true c d t = refl
-or-4 false false true d t = refl
-or-4 false false false true t = refl
-or-4 false false false false t = refl
+or-assoc : (a b c : Bool) → (a || (b || c)) ≡ ((a || b) || c)
+or-assoc true b c = refl
+or-assoc false b c = refl
+
+-- n records from record k on, and those before it
+back : (s : List ℕ) (section : Section) (tag k n : ℕ)
+    → tagBefore s section (k + n) tag ≡ (tagAmong s (recordPlace section k) n tag || tagBefore s section k tag)
+unfolding tagAmong
+back s section tag k zero = rw add-zero
+back s section tag k (suc n) =
+    let j : k + suc n ≡ suc (k + n) = omega arith in
+    let at : recordPlace section (k + n) ≡ recordPlace section k + 16 * n = omega arith in
+    ap (λ (m : ℕ). tagBefore s section m tag) j ∙ step s section tag (k + n)
+    ∙ rw (at, back s section tag k n) (or-assoc
+    (eqb (be32At s (recordPlace section k + 16 * n)) tag)
+    (tagAmong s (recordPlace section k) n tag)
+    (tagBefore s section k tag))
 
 -- the four last bytes, for each way through the tests of them
 module _ (s : List ℕ) (at low : ℕ) where
@@ -123,19 +124,28 @@ no-tag s at tag low m b h =
         let z : at + (n + 3) ≡ at + n + 3 = omega arith in
         sym (low-differs s (at + n) tag m (b (at + n + 3)) (λ r. eqb-false (getD s (at + (n + 3)) 0) low e (rw z r)))
 
-module _ (s : List ℕ) (section : Section) (tag k : ℕ) {v : Bool} (inv : v ≡ tagBefore s section k tag) where
-  pub turn : {r : ℕ} → r ≡ be32At s (recordPlace section (k - 1)) → (r ≡ tag → ⊥) → 0 < k
-      → v ≡ tagBefore s section (k - 1) tag
-  turn e h l =
-      let j : k ≡ suc (k - 1) = omega arith in
-      let f = ne-eqb (be32At s (recordPlace section (k - 1))) tag (λ q. h (e ∙ q)) in
-      inv ∙ ap (λ (n : ℕ). tagBefore s section n tag) j ∙ step s section tag (k - 1) ∙ rw f
+-- what holds of a part of the records between two that agree
+between : (a b v m : Bool) → v ≡ (a || m) → m ≡ (b || v) → m ≡ v
+between a true v m p q = q ∙ sym (p ∙ rw q (or-true a))
+  where
+    or-true : (c : Bool) → (c || true) ≡ true
+    or-true true = refl
+    or-true false = refl
+between a false v m p q = q
 
-  pub ends : {r : ℕ} → r ≡ be32At s (recordPlace section (k - 1)) → r ≡ tag → 0 < k → true ≡ v
-  ends e h l =
-      let j : k ≡ suc (k - 1) = omega arith in
-      let f = eq-eqb (be32At s (recordPlace section (k - 1))) tag (sym e ∙ h) in
-      sym (inv ∙ ap (λ (n : ℕ). tagBefore s section n tag) j ∙ step s section tag (k - 1) ∙ rw f)
+-- one of the first k records, in the shape of what is known in a turn: v is what the search began with, r the tag read
+module _ (s : List ℕ) (section : Section) (tag k : ℕ) {v : Bool} (inv : v ≡ tagBefore s section k tag) where
+  module _ {r : ℕ} (e : r ≡ be32At s (recordPlace section (k - 1) + 0)) (l : 0 < k) where
+    read : v ≡ (eqb r tag || tagBefore s section (k - 1) tag)
+    read =
+        let j : k ≡ suc (k - 1) = omega arith in
+        inv ∙ ap (λ (n : ℕ). tagBefore s section n tag) j ∙ step s section tag (k - 1) ∙ rw (e, add-zero)
+
+    pub turn : (r ≡ tag → ⊥) → v ≡ tagBefore s section (k - 1) tag
+    turn h = read ∙ rw (ne-eqb r tag h)
+
+    pub ends : r ≡ tag → true ≡ v
+    ends h = sym (read ∙ rw (eq-eqb r tag h))
 
   -- whether record k - 1 has the tag, as it was found at its place
   module _ {at : ℕ} {r : Bool} (d : at ≡ recordPlace section (k - 1)) (p : r ≡ eqb (be32At s at) tag) (l : 0 < k) where
@@ -154,28 +164,8 @@ module _ (s : List ℕ) (section : Section) (tag k : ℕ) {v : Bool} (inv : v �
   module _ {at : ℕ} {r : Bool} (d : at ≡ recordPlace section (k - 4)) (p : r ≡ tagAmong s at 4 tag) (l : 4 ≤ k) where
     found-4 : v ≡ (r || tagBefore s section (k - 4) tag)
     found-4 =
-        let j : k ≡ suc (suc (suc (suc (k - 4)))) = omega arith in
-        let a : recordPlace section (suc (suc (suc (k - 4)))) ≡ at + 48 = omega arith in
-        let b : recordPlace section (suc (suc (k - 4))) ≡ at + 32 = omega arith in
-        let c : recordPlace section (suc (k - 4)) ≡ at + 16 = omega arith in
-        let e : recordPlace section (k - 4) ≡ at + 0 = omega arith in
-        inv ∙ ap (λ (n : ℕ). tagBefore s section n tag) j ∙ step-4 s section tag (k - 4)
-        ∙ ap
-        (λ (x : ℕ). has x || (has (recordPlace section (suc (suc (k - 4))))
-        || (has (recordPlace section (suc (k - 4))) || (has (recordPlace section (k - 4)) || rest)))) a
-        ∙ ap
-        (λ (x : ℕ). has (at + 48) || (has x || (has (recordPlace section (suc (k - 4))) || (has (recordPlace section (k - 4)) || rest))))
-        b
-        ∙ ap (λ (x : ℕ). has (at + 48) || (has (at + 32) || (has x || (has (recordPlace section (k - 4)) || rest)))) c
-        ∙ ap (λ (x : ℕ). has (at + 48) || (has (at + 32) || (has (at + 16) || (has x || rest)))) e
-        ∙ sym (or-4 (has (at + 48)) (has (at + 32)) (has (at + 16)) (has (at + 0)) rest)
-        ∙ sym (ap (λ (x : Bool). x || rest) (p ∙ among-4 s at tag))
-      where
-        has : ℕ → Bool
-        has n = eqb (be32At s n) tag
-
-        rest : Bool
-        rest = tagBefore s section (k - 4) tag
+        let j : k ≡ k - 4 + 4 = omega arith in
+        inv ∙ ap (λ (n : ℕ). tagBefore s section n tag) j ∙ back s section tag (k - 4) 4 ∙ rw (p, d)
 
     pub turn-4 : r ≡ false → v ≡ tagBefore s section (k - 4) tag
     turn-4 h = found-4 ∙ rw h
@@ -188,9 +178,27 @@ module _ (s : List ℕ) (section : Section) (tag k : ℕ) {v : Bool} (inv : v �
       → ((n : ℕ) → getD s n 0 < 256) → r ≡ lowAmong s at low → r ≡ false → 4 ≤ k → v ≡ tagBefore s section (k - 4) tag
   turn-low-4 {at} {low} d m b p h l = turn-4 d refl l (no-tag s at tag low m b (sym p ∙ h))
 
-  pub left : {r : Bool} → r ≡ tagBefore s section k tag → r ≡ v
-  left p = p ∙ sym inv
-
   pub spent : k ≤ 0 → false ≡ v
   unfolding tagBefore
   spent l = let j : k ≡ 0 = omega arith in sym (rw j at inv)
+
+first : (s : List ℕ) (section : Section) (tag n : ℕ) → tagBefore s section n tag ≡ tagAmong s (recordPlace section 0) n tag
+unfolding tagBefore
+first s section tag n =
+    let z : n ≡ 0 + n = omega arith in
+    ap (λ (m : ℕ). tagBefore s section m tag) z ∙ back s section tag 0 n ∙ or-false _
+
+-- fewer than four are left: the first four decide
+pub last-4 : (s : List ℕ) (section : Section) (tag i k : ℕ) {at : ℕ} {r : Bool}
+    → tagBefore s section i tag ≡ tagBefore s section k tag → k < 4 → 4 ≤ i → at ≡ recordPlace section 0
+    → r ≡ tagAmong s at 4 tag → r ≡ tagBefore s section i tag
+last-4 s section tag i k {at} {r} inv l h d p =
+    let j : i ≡ 4 + (i - 4) = omega arith in
+    let g : 4 ≡ k + (4 - k) = omega arith in
+    let four : r ≡ tagBefore s section 4 tag = p ∙ rw d (sym (first s section tag 4)) in
+    let more = ap (λ (n : ℕ). tagBefore s section n tag) j ∙ back s section tag 4 (i - 4) in
+    let fewer =
+    ap (λ (n : ℕ). tagBefore s section n tag) g ∙ back s section tag k (4 - k)
+    ∙ ap (λ (b : Bool). tagAmong s (recordPlace section k) (4 - k) tag || b) (sym inv)
+    in
+    four ∙ between (tagAmong s (recordPlace section 4) (i - 4) tag) (tagAmong s (recordPlace section k) (4 - k) tag) _ _ more fewer

@@ -6,28 +6,16 @@ ghost use lib.Dec.{eqb};
 ghost use Rattle.be.specs.Numbers.{be32At};
 ghost use Rattle.format.specs.Places.{recordPlace};
 ghost use Rattle.repeats.specs.Repeats.{lowAmong, tagAmong, tagBefore};
+use format::FileOffset;
+use format::IndexRecord;
 use format::Section;
 
-// The tag of record `i`. For one of the first `n`, where the slice has those whole, it is read at once.
-pub fn tag_at(s: &[u8], section: Section, n: u32, i: u32) -> u32
-    ensures { λ r. ⌜ r ≡ be32At (now (s .entry)) (recordPlace section i) ⌝ }
-{
-    let end = section.index_record(n);
-    let place = section.index_record(i);
-    let at = place.0;
-    if end.0 <= s.len() {
-        if i < n {
-            return be::join32(s[at], s[at + 1], s[at + 2], s[at + 3]);
-        }
-    }
-    be::be32(s, at)
-}
-
 // Whether the record at a place has the tag, whose last byte is `low`. Most tags differ in it.
-fn tag_is(s: &[u8], at: usize, low: u8, tag: u32) -> bool
-    requires { ⌜ (at + 4 ≤ length (now s)) × (low ≡ tag % 256) ⌝ }
-    ensures { λ r. ⌜ r ≡ eqb (be32At (now (s .entry)) at) tag ⌝ }
+fn tag_is(s: &[u8], place: FileOffset, low: u8, tag: u32) -> bool
+    requires { ⌜ (place .0 + 4 ≤ length (now s)) × (low ≡ tag % 256) ⌝ }
+    ensures { λ r. ⌜ r ≡ eqb (be32At (now (s .entry)) (place .0)) tag ⌝ }
 {
+    let at = place.0;
     if s[at + 3] != low {
         return false;
     }
@@ -35,10 +23,11 @@ fn tag_is(s: &[u8], at: usize, low: u8, tag: u32) -> bool
 }
 
 // Whether the tag of one of the four records from a place on has the last byte.
-fn low_in_4(s: &[u8], at: usize, low: u8) -> bool
-    requires { ⌜ at + 64 ≤ length (now s) ⌝ }
-    ensures { λ r. ⌜ r ≡ lowAmong (now (s .entry)) at low ⌝ }
+fn low_in_4(s: &[u8], place: FileOffset, low: u8) -> bool
+    requires { ⌜ place .0 + 64 ≤ length (now s) ⌝ }
+    ensures { λ r. ⌜ r ≡ lowAmong (now (s .entry)) (place .0) low ⌝ }
 {
+    let at = place.0;
     if s[at + 3] == low {
         return true;
     }
@@ -52,20 +41,21 @@ fn low_in_4(s: &[u8], at: usize, low: u8) -> bool
 }
 
 // Whether one of the four records from a place on has the tag.
-fn tag_in_4(s: &[u8], at: usize, low: u8, tag: u32) -> bool
-    requires { ⌜ (at + 64 ≤ length (now s)) × (low ≡ tag % 256) ⌝ }
-    ensures { λ r. ⌜ r ≡ tagAmong (now (s .entry)) at 4 tag ⌝ }
+fn tag_in_4(s: &[u8], place: FileOffset, low: u8, tag: u32) -> bool
+    requires { ⌜ (place .0 + 64 ≤ length (now s)) × (low ≡ tag % 256) ⌝ }
+    ensures { λ r. ⌜ r ≡ tagAmong (now (s .entry)) (place .0) 4 tag ⌝ }
 {
-    if tag_is(s, at + 48, low, tag) {
+    let at = place.0;
+    if tag_is(s, FileOffset(at + 48), low, tag) {
         return true;
     }
-    if tag_is(s, at + 32, low, tag) {
+    if tag_is(s, FileOffset(at + 32), low, tag) {
         return true;
     }
-    if tag_is(s, at + 16, low, tag) {
+    if tag_is(s, FileOffset(at + 16), low, tag) {
         return true;
     }
-    tag_is(s, at, low, tag)
+    tag_is(s, place, low, tag)
 }
 
 // Whether one of the first `i` records has the tag (check 13), in a slice that may end before them.
@@ -75,7 +65,7 @@ fn tag_before_cut(s: &[u8], section: Section, i: u32, tag: u32) -> bool
     let mut k = i;
     while 0 < k {
         k -= 1;
-        if tag_at(s, section, i, k) == tag {
+        if section.number(s, i, k, IndexRecord::TAG) == tag {
             return true;
         }
     }
@@ -92,16 +82,16 @@ fn tag_before_near(s: &[u8], section: Section, i: u32, tag: u32) -> bool
     while 0 < k {
         k -= 1;
         let place = section.index_record(k);
-        if tag_is(s, place.0, low, tag) {
+        if tag_is(s, place, low, tag) {
             return true;
         }
     }
     false
 }
 
-// The same, by fours.
-fn tag_before_within(s: &[u8], section: Section, i: u32, tag: u32) -> bool
-    requires { ⌜ recordPlace section i ≤ length (now s) ⌝ }
+// The same by fours, where there are four; the first four stand for those that are left.
+fn tag_before_by_4(s: &[u8], section: Section, i: u32, tag: u32) -> bool
+    requires { ⌜ (4 ≤ i) × (recordPlace section i ≤ length (now s)) ⌝ }
     ensures { λ r. ⌜ r ≡ tagBefore (now (s .entry)) section i tag ⌝ }
 {
     let low = (tag % 256) as u8;
@@ -109,13 +99,14 @@ fn tag_before_within(s: &[u8], section: Section, i: u32, tag: u32) -> bool
     while 4 <= k {
         k -= 4;
         let place = section.index_record(k);
-        if low_in_4(s, place.0, low) {
-            if tag_in_4(s, place.0, low, tag) {
+        if low_in_4(s, place, low) {
+            if tag_in_4(s, place, low, tag) {
                 return true;
             }
         }
     }
-    tag_before_near(s, section, k, tag)
+    let first = section.index_record(0);
+    tag_in_4(s, first, low, tag)
 }
 
 // Whether one of the first `i` records has the tag.
@@ -126,5 +117,8 @@ pub fn tag_before(s: &[u8], section: Section, i: u32, tag: u32) -> bool
     if s.len() < end.0 {
         return tag_before_cut(s, section, i, tag);
     }
-    tag_before_within(s, section, i, tag)
+    if i < 4 {
+        return tag_before_near(s, section, i, tag);
+    }
+    tag_before_by_4(s, section, i, tag)
 }

@@ -10,6 +10,7 @@ ghost use Rattle.entries.specs.Types.{elementSize};
 ghost use Rattle.package.specs.Package.{soundCheck, headerAt};
 ghost use Rattle.required.specs.Version.{versionFrom, versionIn, soughtVersion, requiredVersion};
 use elements::element;
+use format::FileOffset;
 use format::Section;
 use index::Entry;
 use index::Found;
@@ -38,10 +39,11 @@ fn beside(pkg: &[u8], name: &[u8], names: Entry, versions: Entry) -> Sought
     let mut at = names.at.0;
     let mut k = 0;
     while k < names.count {
+        let place = FileOffset(at);
         let end = names.at.0 + names.extent;
-        let run = strings::strings_end(pkg, at, end, 1);
-        let extent = index::extent_to(at, run);
-        let text = be::part(pkg, at, extent - 1);
+        let run = place.strings_end(pkg, FileOffset(end), 1);
+        let extent = index::extent_to(place, run);
+        let text = place.part(pkg, extent - 1);
         if be::same(text, name) {
             return Sought::Here(element(pkg, versions, k));
         }

@@ -9,7 +9,7 @@ use Rattle.format.specs.declared.verdict.Verdict.{Verdict}
 use Rattle.index.specs.Lookup.{taggedIn}
 use Rattle.catalogue.specs.declared.Line.{Line}
 use Rattle.tags.specs.Tags.{Look}
-use Rattle.tags.specs.Tables.{slotOf, shownBy, gathered, withSlots}
+use Rattle.tags.specs.Tables.{slotOf, shownBy, gathered, emptyTable, withSlots}
 use Rattle.tags.proofs.ShownLaws.{gathered-shows}
 use Rattle.lines.proofs.SlotLaws.{lines-slots}
 use Rattle.groups.proofs.SlotLaws.{groups-slots}
@@ -26,7 +26,8 @@ module _ (hasLine : Line → Bool) (s : List ℕ) (len : ℕ) (signature header 
   unfolding rulesOver
   rules-slots a b = rw (lines-slots hasLine a b, size-slots a, groups-slots a b, texts-slots s header b)
 
-  pub rules-gathered : {v : Verdict} {first second : List ℕ} → first ≡ gathered s signature → second ≡ gathered s header
+  pub rules-gathered : {v : Verdict} {first second : List ℕ} → first ≡ gathered s signature emptyTable
+      → second ≡ gathered s header emptyTable
       → v ≡ rulesOver hasLine s len signature header (shownBy first) (shownBy second)
       → v ≡ rulesCheck hasLine s len signature header
   rules-gathered p q k =

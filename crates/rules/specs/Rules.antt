@@ -17,7 +17,7 @@ use Rattle.texts.specs.Texts.{textsCheck}
 -- 16 | the signature's 1000 isn't length − H | 1000
 unfoldable pub sizeTagCheck : List ℕ → ℕ → Section → Section → Look → Verdict
 sizeTagCheck s len signature header look =
-    check (eqb (numberIn s signature look 1000) (len - header .start)) 16 1000 Pass
+    check (eqb (numberIn s signature look 1000) (len - header .start .0)) 16 1000 Pass
 
 -- 14 to 18, by what signature and header show
 unfoldable pub rulesOver : (Line → Bool) → List ℕ → ℕ → Section → Section → Look → Look → Verdict

@@ -26,7 +26,7 @@ fn size_tag_check(
 ) -> Verdict
     ensures { λ r. ⌜ r ≡ sizeTagCheck (now (pkg .entry)) len signature header (shownBy (now (tags .entry))) ⌝ }
 {
-    if tags::number(pkg, signature, tags, 1000) != left_from(header.start, len) {
+    if tags::number(pkg, signature, tags, 1000) != left_from(header.start.0, len) {
         return Verdict::Fail(16, 1000);
     }
     Verdict::Pass
@@ -64,7 +64,9 @@ fn check_gathered(
 pub fn check(edition: u32, pkg: &[u8], len: u32, signature: Section, header: Section) -> Verdict
     ensures { λ r. ⌜ r ≡ rulesCheck (inEdition edition) (now (pkg .entry)) len signature header ⌝ }
 {
-    let first = gather(pkg, signature);
-    let second = gather(pkg, header);
+    let mut first = [0u32; Table::NUMBERS];
+    gather(&mut first, pkg, signature);
+    let mut second = [0u32; Table::NUMBERS];
+    gather(&mut second, pkg, header);
     check_gathered(edition, pkg, len, signature, header, &first, &second)
 }

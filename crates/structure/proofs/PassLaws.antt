@@ -1,6 +1,6 @@
 -- What a structure that passed its checks is, and the answer of the checks from what was read.
 use Prim.Native.Nat.{ℕ, zero, suc, _+_, _<_}
-use mathlib.Core.Path.{_≡_, refl, sym, _∙_}
+use mathlib.Core.Path.{_≡_, refl, sym, ap, _∙_}
 use mathlib.Core.List.{List}
 use native.Mathlib.Omega.{arith}
 use borrow.Author.Tests.{leb-true, eqb-true}
@@ -36,10 +36,13 @@ header-sound len start h k =
       fits = leb-true _ _ (k8 .0);
     }
 
--- in the shape of what is known where the structure is checked: h is the header record that was read, v what its checks
--- found, w what the records' checks found
-module _ (s : List ℕ) (len start : ℕ) {h : HeaderRecord} (q : h ≡ headerRecordAt s start) {v : Verdict}
-    (p : v ≡ headerCheck len start h) where
+-- in the shape of what is known where the structure is checked: h is the header record that was read at its place, v what
+-- its checks found, w what the records' checks found
+module _ (s : List ℕ) (len start : ℕ) {place : ℕ} {h : HeaderRecord} (e : place ≡ start) (r : h ≡ headerRecordAt s place)
+    {v : Verdict} (p : v ≡ headerCheck len start h) where
+  q : h ≡ headerRecordAt s start
+  q = r ∙ ap (headerRecordAt s) e
+
   pub refused : {number at : ℕ} → v ≡ Fail number at → Unsound number at ≡ structureChecked s len start
   unfolding structureCheck
   refused k = rw (both-fail _ (rw q at (sym p ∙ k)))
@@ -55,8 +58,9 @@ module _ (s : List ℕ) (len start : ℕ) {h : HeaderRecord} (q : h ≡ headerRe
     pub unsound : {number at : ℕ} → w ≡ Fail number at → Unsound number at ≡ structureChecked s len start
     unsound l = rw (rest ∙ l)
 
-  pub store-small : v ≡ Pass → len < 4294967296 → storePlace (sectionOf start h) < 4294967296
-  store-small k l = let b = header-sound len start h (sym p ∙ k) .fits in omega arith
+pub store-small : (len start : ℕ) (h : HeaderRecord) {v : Verdict} → v ≡ headerCheck len start h → v ≡ Pass → len < 4294967296
+    → storePlace (sectionOf start h) < 4294967296
+store-small len start h p k l = let b = header-sound len start h (sym p ∙ k) .fits in omega arith
 
 -- each record of a run that passed has passed
 pub each : (s : List ℕ) (section : Section) (n i : ℕ) → recordsFrom s section n i ≡ Pass → (k : ℕ) → k < n

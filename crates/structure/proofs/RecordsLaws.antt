@@ -1,4 +1,4 @@
--- Laws of `recordsFrom`, one for each way through a turn; a record as it was read: record-read, record-whole.
+-- Laws of `recordsFrom`, one for each way through a turn.
 use Prim.Native.Nat.{ℕ, suc, _+_, _-_, _≤_, _<_}
 use mathlib.Core.Path.{_≡_, refl, sym, ap, _∙_}
 use mathlib.Core.List.{List}
@@ -9,10 +9,7 @@ use Rattle.format.specs.declared.verdict.Verdict.the-variants.{Pass, Fail}
 use Rattle.format.specs.Verdicts.{both}
 use Rattle.format.proofs.VerdictLaws.{both-pass, both-fail}
 use Rattle.format.specs.declared.records.IndexRecord.{IndexRecord}
-use Rattle.be.specs.Numbers.{be32At}
 use Rattle.format.specs.Places.{recordPlace}
-use Rattle.format.specs.Records.{indexRecordAt}
-use Rattle.format.proofs.RecordLaws.{index-read}
 use Rattle.entries.specs.Entries.{recordAt, dataEnd, entryCheck, recordCheck}
 use Rattle.structure.specs.Structure.{recordsFrom}
 
@@ -56,13 +53,3 @@ pub spent : (s : List ℕ) (section : Section) (n i : ℕ) {v : Verdict} → v �
 spent s section n i p l =
     let k : n - i ≡ 0 = omega arith in
     none s section (n - i) i k ∙ sym p
-
--- a record, from the numbers that were read or whole
-module _ (s : List ℕ) {at place : ℕ} (h : at ≡ place) where
-  pub record-read : {a b c d : ℕ} → a ≡ be32At s (at + 0) → b ≡ be32At s (at + 4) → c ≡ be32At s (at + 8)
-      → d ≡ be32At s (at + 12)
-      → _≡_ {A = IndexRecord} (record { tag = a; ty = b; offset = record { 0 = c }; count = d }) (indexRecordAt s place)
-  record-read p q r t = index-read s at p q r t ∙ ap (indexRecordAt s) h
-
-  pub record-whole : {e : IndexRecord} → e ≡ indexRecordAt s at → e ≡ indexRecordAt s place
-  record-whole q = q ∙ ap (indexRecordAt s) h

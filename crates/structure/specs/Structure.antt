@@ -16,7 +16,7 @@ use Rattle.entries.specs.Entries.{recordCheck}
 
 -- the structure that a header record describes
 abbrev pub sectionOf : ℕ → HeaderRecord → Section
-sectionOf start h = record { start = start; nindex = h .nindex; hsize = h .hsize }
+sectionOf start h = record { start = record { 0 = start }; nindex = h .nindex; hsize = h .hsize }
 
 abbrev pub sectionAt : List ℕ → ℕ → Section
 sectionAt s start = sectionOf start (headerRecordAt s start)

@@ -2,17 +2,13 @@
 ghost use mathlib.Core.Path.{_≡_};
 ghost use Prim.Native.Nat.{ℕ, _+_, _≤_, _<_};
 ghost use lib.ListN.{length};
-ghost use Rattle.be.specs.Numbers.{be32At};
 ghost use Rattle.format.specs.Places.{storePlace};
-ghost use Rattle.entries.specs.Entries.{recordAt};
 ghost use Rattle.structure.specs.Structure.{headerCheck, recordsCheck};
 ghost use Rattle.structure.specs.Checked.{structureChecked};
 use entries::entry_check;
-use format::FileOffset;
 use format::HeaderRecord;
-use format::IndexRecord;
 use format::Section;
-use format::StoreOffset;
+use format::Start;
 use format::Verdict;
 
 // A structure that passed its checks, or the first check that failed and its place.
@@ -22,19 +18,20 @@ pub enum Checked {
 }
 
 // Checks 5 to 8 for the header record at `start`, in a package of `len` bytes.
-fn header_check(len: u32, start: u32, h: HeaderRecord) -> Verdict
-    ensures { λ r. ⌜ r ≡ headerCheck len start h ⌝ }
+fn header_check(len: u32, start: Start, h: HeaderRecord) -> Verdict
+    ensures { λ r. ⌜ r ≡ headerCheck len (start .0) h ⌝ }
 {
     let room = len as usize;
-    let first = start as usize + HeaderRecord::SIZE;
+    let magic = start.0;
+    let first = magic as usize + HeaderRecord::SIZE;
     if room < first {
-        return Verdict::Fail(5, start);
+        return Verdict::Fail(5, magic);
     }
-    let reserved = start + HeaderRecord::RESERVED as u32;
-    let nindex = start + HeaderRecord::NINDEX as u32;
-    let hsize = start + HeaderRecord::HSIZE as u32;
+    let reserved = magic + HeaderRecord::RESERVED as u32;
+    let nindex = magic + HeaderRecord::NINDEX as u32;
+    let hsize = magic + HeaderRecord::HSIZE as u32;
     if h.magic != 0x8EAD_E801 {
-        return Verdict::Fail(6, start);
+        return Verdict::Fail(6, magic);
     }
     if h.reserved != 0 {
         return Verdict::Fail(6, reserved);
@@ -57,34 +54,6 @@ fn header_check(len: u32, start: u32, h: HeaderRecord) -> Verdict
     Verdict::Pass
 }
 
-// The number at a place of a slice that has it whole.
-fn be32_within(s: &[u8], at: usize) -> u32
-    requires { ⌜ at + 4 ≤ length (now s) ⌝ }
-    ensures { λ r. ⌜ r ≡ be32At (now (s .entry)) at ⌝ }
-{
-    be::join32(s[at], s[at + 1], s[at + 2], s[at + 3])
-}
-
-// Record `i`. For one of the first `n`, where the slice has those whole, it is read at once.
-fn record_at(s: &[u8], section: Section, n: u32, i: u32) -> IndexRecord
-    ensures { λ r. ⌜ r ≡ recordAt (now (s .entry)) section i ⌝ }
-{
-    let end = section.index_record(n);
-    let place = section.index_record(i);
-    let at = place.0;
-    if end.0 <= s.len() {
-        if i < n {
-            return IndexRecord {
-                tag: be32_within(s, at + IndexRecord::TAG),
-                ty: be32_within(s, at + IndexRecord::TYPE),
-                offset: StoreOffset(be32_within(s, at + IndexRecord::OFFSET)),
-                count: be32_within(s, at + IndexRecord::COUNT),
-            };
-        }
-    }
-    IndexRecord::at(s, place)
-}
-
 // Checks 9 to 13 for each index record in turn.
 fn records_check(s: &[u8], section: Section) -> Verdict
     requires { ⌜ storePlace section < 4294967296 ⌝ }
@@ -94,7 +63,7 @@ fn records_check(s: &[u8], section: Section) -> Verdict
     let mut i = 0;
     while i < n {
         let place = section.index_record(i);
-        let e = record_at(s, section, n, i);
+        let e = section.record(s, n, i);
         let v = entry_check(s, section, i, place.0 as u32, e);
         if let Verdict::Fail(number, at) = v {
             return Verdict::Fail(number, at);
@@ -105,10 +74,10 @@ fn records_check(s: &[u8], section: Section) -> Verdict
 }
 
 // Checks 5 to 13 for the structure at `start` in a package of `len` bytes.
-pub fn check(s: &[u8], len: u32, start: u32) -> Checked
-    ensures { λ r. ⌜ r ≡ structureChecked (now (s .entry)) len start ⌝ }
+pub fn check(s: &[u8], len: u32, start: Start) -> Checked
+    ensures { λ r. ⌜ r ≡ structureChecked (now (s .entry)) len (start .0) ⌝ }
 {
-    let h = HeaderRecord::at(s, FileOffset(start as usize));
+    let h = HeaderRecord::at(s, start.in_file());
     let v = header_check(len, start, h);
     if let Verdict::Fail(number, at) = v {
         return Checked::Unsound(number, at);

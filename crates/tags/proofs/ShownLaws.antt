@@ -4,7 +4,7 @@ use mathlib.Core.Path.{_≡_, refl, sym, ap, subst, _∙_}
 use mathlib.Core.Logic.{_⊎_, inl, inr}
 use mathlib.Core.List.{List, [], _∷_}
 use mathlib.Core.Bool.{Bool, true, false, cond}
-use lib.ListN.{length, getD, replicate, length-replicate, getD-replicate}
+use lib.ListN.{length, getD, length-replicate, getD-replicate}
 use lib.Seq.{sets, length-sets}
 use lib.Dec.{eqb, ltb}
 use native.Mathlib.Omega.{arith}
@@ -19,7 +19,7 @@ use Rattle.index.specs.declared.Tagged.the-variants.{Present, Absent}
 use Rattle.index.specs.Lookup.{taggedFrom, taggedIn}
 use Rattle.tags.specs.Tags.{Look}
 use Rattle.tags.specs.Tables.{slots, slotOf, hasSlot, tableNumbers, recordIn, shownBy, noted}
-use Rattle.tags.specs.Tables.{gatheredFrom, gathered, withSlots}
+use Rattle.tags.specs.Tables.{gatheredFrom, gathered, emptyTable, withSlots}
 use Rattle.tags.proofs.TableLaws.{no-slot, there, other}
 use Rattle.tags.proofs.SlotLaws.{only}
 use Rattle.tags.proofs.StoreLaws.{sets-kept, sets-at}
@@ -112,11 +112,11 @@ module _ (e : IndexRecord) (t : List ℕ) where
       go false h = rw (noted-out e t h)
 
 module _ (s : List ℕ) (section : Section) where
-  table-length : (n i : ℕ) → length (gatheredFrom s section n i) ≡ tableNumbers
-  table-length zero i = rw (none s section i) (length-replicate {A = ℕ} tableNumbers 0)
+  table-length : (n i : ℕ) → length (gatheredFrom s section emptyTable n i) ≡ tableNumbers
+  table-length zero i = rw (none s section emptyTable i) (length-replicate {A = ℕ} tableNumbers 0)
   table-length (suc n) i =
-      rw (step s section n i)
-      (noted-length (recordAt s section i) (gatheredFrom s section n (i + 1)) ∙ table-length n (i + 1))
+      rw (step s section emptyTable n i)
+      (noted-length (recordAt s section i) (gatheredFrom s section emptyTable n (i + 1)) ∙ table-length n (i + 1))
 
   tagged-step : (n i tag : ℕ) → taggedFrom s section (suc n) i tag
       ≡ cond (eqb (recordAt s section i .tag) tag) (Present (recordAt s section i)) (taggedFrom s section n (i + 1) tag)
@@ -132,30 +132,30 @@ module _ (s : List ℕ) (section : Section) where
     some : (0 ≡ tag → ⊥)
     some h = let m : slotOf tag ≡ slotOf 0 = ap slotOf (sym h) in omega (arith, slot-0)
 
-    pub gathered-at : (n i : ℕ) → shownBy (gatheredFrom s section n i) tag ≡ taggedFrom s section n i tag
+    pub gathered-at : (n i : ℕ) → shownBy (gatheredFrom s section emptyTable n i) tag ≡ taggedFrom s section n i tag
     gathered-at zero i =
-        rw (none s section i, tagged-none i tag)
-        (sym (other (replicate tableNumbers 0) tag refl l (λ h. some (sym (getD-replicate tableNumbers (4 * slotOf tag) 0 0 (omega arith)) ∙ h))))
+        rw (none s section emptyTable i, tagged-none i tag)
+        (sym (other emptyTable tag refl l (λ h. some (sym (getD-replicate tableNumbers (4 * slotOf tag) 0 0 (omega arith)) ∙ h))))
     gathered-at (suc n) i = go (eqb (recordAt s section i .tag) tag) refl (gathered-at n (i + 1))
       where
         go : (b : Bool) → eqb (recordAt s section i .tag) tag ≡ b
-            → shownBy (gatheredFrom s section n (i + 1)) tag ≡ taggedFrom s section n (i + 1) tag
-            → shownBy (gatheredFrom s section (suc n) i) tag ≡ taggedFrom s section (suc n) i tag
+            → shownBy (gatheredFrom s section emptyTable n (i + 1)) tag ≡ taggedFrom s section n (i + 1) tag
+            → shownBy (gatheredFrom s section emptyTable (suc n) i) tag ≡ taggedFrom s section (suc n) i tag
         go true h ih =
-            rw (step s section n i, tagged-step n i tag, h)
-            (noted-own (recordAt s section i) (gatheredFrom s section n (i + 1)) tag
+            rw (step s section emptyTable n i, tagged-step n i tag, h)
+            (noted-own (recordAt s section i) (gatheredFrom s section emptyTable n (i + 1)) tag
             (eqb-true (recordAt s section i .tag) tag h) l (table-length n (i + 1)))
         go false h ih =
-            rw (step s section n i, tagged-step n i tag, h)
-            (noted-other (recordAt s section i) (gatheredFrom s section n (i + 1)) tag
+            rw (step s section emptyTable n i, tagged-step n i tag, h)
+            (noted-other (recordAt s section i) (gatheredFrom s section emptyTable n (i + 1)) tag
             (eqb-false (recordAt s section i .tag) tag h) l ∙ ih)
 
-  shown-at : (tag : ℕ) → shownBy (gathered s section) tag ≡ withSlots (taggedIn s section) tag
+  shown-at : (tag : ℕ) → shownBy (gathered s section emptyTable) tag ≡ withSlots (taggedIn s section) tag
   shown-at tag = go (hasSlot tag) refl
     where
-      go : (b : Bool) → hasSlot tag ≡ b → shownBy (gathered s section) tag ≡ cond b (taggedIn s section tag) Absent
+      go : (b : Bool) → hasSlot tag ≡ b → shownBy (gathered s section emptyTable) tag ≡ cond b (taggedIn s section tag) Absent
       go true h = gathered-at tag (ltb-true (slotOf tag) slots h) (section .nindex) 0
-      go false h = sym (no-slot (gathered s section) tag refl (ltb-false (slotOf tag) slots h))
+      go false h = sym (no-slot (gathered s section emptyTable) tag refl (ltb-false (slotOf tag) slots h))
 
-  pub gathered-shows : shownBy (gathered s section) ≡ withSlots (taggedIn s section)
+  pub gathered-shows : shownBy (gathered s section emptyTable) ≡ withSlots (taggedIn s section)
   gathered-shows = λ i tag. shown-at tag i

@@ -7,6 +7,7 @@ use mathlib.Core.Bool.{Bool, true, false}
 use lib.ListN.{getD, set}
 use lib.Seq.{sets}
 use native.Mathlib.Omega.{arith}
+use native.Mathlib.Nat.{add-zero}
 use borrow.Author.Tests.{eq-eqb, ne-eqb, lt-ltb, le-ltb}
 use Rattle.be.specs.Numbers.{be32At}
 use Rattle.format.specs.Records.{indexRecordAt}
@@ -59,7 +60,10 @@ four t i a b c d =
     let r : i + 3 ≡ suc (suc (suc i)) = omega arith in
     rw (p, q, r)
 
-module _ (t s : List ℕ) (at : ℕ) {tag k : ℕ} (p : tag ≡ be32At s at) (e : k ≡ slotOf tag) where
+module _ (t s : List ℕ) (at : ℕ) {tag k : ℕ} (read : tag ≡ be32At s (at + 0)) (e : k ≡ slotOf tag) where
+  p : tag ≡ be32At s at
+  p = read ∙ rw add-zero
+
   slot-of : k ≡ slotOf (be32At s at)
   slot-of = e ∙ ap slotOf p
 

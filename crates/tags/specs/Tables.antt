@@ -53,13 +53,18 @@ unfoldable pub noted : IndexRecord → List ℕ → List ℕ
 noted e table =
     cond (hasSlot (e .tag)) (sets table (4 * slotOf (e .tag)) (e .tag ∷ e .ty ∷ e .offset .0 ∷ e .count ∷ [])) table
 
--- the table of n index records from number i on; the first record of a tag is the one that stays
-unfoldable pub gatheredFrom : List ℕ → Section → ℕ → ℕ → List ℕ
-gatheredFrom s section zero i = replicate tableNumbers 0
-gatheredFrom s section (suc n) i = noted (recordAt s section i) (gatheredFrom s section n (i + 1))
+-- a table with n index records from number i on; the first record of a tag is the one that stays
+unfoldable pub gatheredFrom : List ℕ → Section → List ℕ → ℕ → ℕ → List ℕ
+gatheredFrom s section table zero i = table
+gatheredFrom s section table (suc n) i = noted (recordAt s section i) (gatheredFrom s section table n (i + 1))
 
-abbrev pub gathered : List ℕ → Section → List ℕ
-gathered s section = gatheredFrom s section (section .nindex) 0
+-- a table with the records of an index
+abbrev pub gathered : List ℕ → Section → List ℕ → List ℕ
+gathered s section table = gatheredFrom s section table (section .nindex) 0
+
+-- a table of zeros shows no tag: 0 has no slot
+abbrev pub emptyTable : List ℕ
+emptyTable = replicate tableNumbers 0
 
 -- a look-up that shows the tags with a slot alone
 abbrev pub withSlots : Look → Look

@@ -1,7 +1,6 @@
 // The records of the catalogue's tags, gathered in one pass over an index.
 ghost use mathlib.Core.Path.{_≡_};
-ghost use Prim.Native.Nat.{_<_};
-ghost use Rattle.format.specs.Records.{indexRecordAt};
+ghost use Rattle.entries.specs.Entries.{recordAt};
 ghost use Rattle.tags.specs.Tags.{has, countIn, numberIn};
 ghost use Rattle.tags.specs.Tables.{slotOf, shownBy, noted, gathered};
 use format::IndexRecord;
@@ -56,35 +55,33 @@ fn slot(tag: u32) -> usize
     Table::SLOTS
 }
 
-// Puts the record at a place in its tag's slot, where it has one.
-fn note(table: &mut [u32; Table::NUMBERS], s: &[u8], at: usize)
-    requires { ⌜ at < 1099511627776 ⌝ }
-    ensures { λ r. ⌜ now (table .exit) ≡ noted (indexRecordAt (now (s .entry)) at) (now (table .entry)) ⌝ }
+// Puts record `i` of an index in its tag's slot, where it has one.
+fn note(table: &mut [u32; Table::NUMBERS], s: &[u8], section: Section, i: u32)
+    ensures { λ r. ⌜ now (table .exit) ≡ noted (recordAt (now (s .entry)) section i) (now (table .entry)) ⌝ }
 {
-    let tag = be::be32(s, at);
+    let n = section.nindex;
+    let tag = section.number(s, n, i, IndexRecord::TAG);
     let k = slot(tag);
     if Table::SLOTS <= k {
         return;
     }
     let to = 4 * k;
     table[to] = tag;
-    table[to + 1] = be::be32(s, at + IndexRecord::TYPE);
-    table[to + 2] = be::be32(s, at + IndexRecord::OFFSET);
-    table[to + 3] = be::be32(s, at + IndexRecord::COUNT);
+    table[to + 1] = section.number(s, n, i, IndexRecord::TYPE);
+    table[to + 2] = section.number(s, n, i, IndexRecord::OFFSET);
+    table[to + 3] = section.number(s, n, i, IndexRecord::COUNT);
 }
 
-// The records of the catalogue's tags in an index: from its last record to its first, so that the first of a tag stays.
-pub fn gather(s: &[u8], section: Section) -> [u32; Table::NUMBERS]
-    ensures { λ r. ⌜ r ≡ gathered (now (s .entry)) section ⌝ }
+// Puts the records of the catalogue's tags of an index into a table: from the last record to the first, so that the first
+// of a tag stays.
+pub fn gather(table: &mut [u32; Table::NUMBERS], s: &[u8], section: Section)
+    ensures { λ r. ⌜ now (table .exit) ≡ gathered (now (s .entry)) section (now (table .entry)) ⌝ }
 {
-    let mut table = [0u32; Table::NUMBERS];
     let mut i = section.nindex;
     while 0 < i {
         i -= 1;
-        let place = section.index_record(i);
-        note(&mut table, s, place.0);
+        note(table, s, section, i);
     }
-    table
 }
 
 // What a table shows for a tag.
@@ -149,7 +146,7 @@ pub fn number(pkg: &[u8], section: Section, table: &[u32; Table::NUMBERS], tag: 
     match found {
         Tagged::Present(e) => {
             let at = e.offset.in_file(section);
-            be::be32(pkg, at.0)
+            at.number(pkg)
         }
         Tagged::Absent => 0,
     }

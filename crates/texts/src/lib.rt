@@ -6,6 +6,7 @@ ghost use Rattle.tags.specs.Tables.{shownBy};
 ghost use Rattle.texts.specs.Texts.{entryIn, textIs, programsCheck, allBelow, indexesBelow};
 ghost use Rattle.texts.specs.Texts.{slashesEnd, directoriesEnd, textsCheck};
 use entries::data_end;
+use format::FileOffset;
 use format::Section;
 use format::Verdict;
 use index::Found;
@@ -42,7 +43,7 @@ fn text_is(
     let found = entry_for(pkg, section, tags, tag);
     match found {
         Found::At(entry) => {
-            let bytes = be::part(pkg, entry.at.0, entry.extent);
+            let bytes = entry.at.part(pkg, entry.extent);
             be::same(bytes, text)
         }
         Found::Nothing => true,
@@ -70,14 +71,14 @@ fn programs(pkg: &[u8], header: Section, tags: &[u32; Table::NUMBERS]) -> Verdic
 }
 
 // Whether each of `n` 32-bit numbers from a place on is below a limit.
-fn all_below(pkg: &[u8], limit: u32, n: u32, at: usize) -> bool
-    requires { ⌜ at < 1099511627776 ⌝ }
-    ensures { λ r. ⌜ r ≡ allBelow (now (pkg .entry)) limit n at ⌝ }
+fn all_below(pkg: &[u8], limit: u32, n: u32, place: FileOffset) -> bool
+    requires { ⌜ place .0 < 1099511627776 ⌝ }
+    ensures { λ r. ⌜ r ≡ allBelow (now (pkg .entry)) limit n (place .0) ⌝ }
 {
     let mut left = n;
-    let mut i = at;
+    let mut i = place.0;
     while 0 < left {
-        if limit <= be::be32(pkg, i) {
+        if limit <= FileOffset(i).number(pkg) {
             return false;
         }
         i += 4;
@@ -95,22 +96,22 @@ fn indexes_below(pkg: &[u8], header: Section, tags: &[u32; Table::NUMBERS]) -> b
     match found {
         Tagged::Present(e) => {
             let at = e.offset.in_file(header);
-            all_below(pkg, limit, e.count, at.0)
+            all_below(pkg, limit, e.count, at)
         }
         Tagged::Absent => true,
     }
 }
 
 // Whether, in `n` bytes from a place on, the byte before each zero byte is "/".
-fn slashes_end(pkg: &[u8], n: usize, at: usize) -> bool
-    requires { ⌜ at + n < 18446744073709551616 ⌝ }
-    ensures { λ r. ⌜ r ≡ slashesEnd (now (pkg .entry)) 0 n at ⌝ }
+fn slashes_end(pkg: &[u8], n: usize, place: FileOffset) -> bool
+    requires { ⌜ place .0 + n < 18446744073709551616 ⌝ }
+    ensures { λ r. ⌜ r ≡ slashesEnd (now (pkg .entry)) 0 n (place .0) ⌝ }
 {
     let mut last = 0;
     let mut rest = n;
-    let mut i = at;
+    let mut i = place.0;
     while 0 < rest {
-        let b = be::byte_at(pkg, i);
+        let b = FileOffset(i).byte(pkg);
         if b == 0 {
             if last != b'/' {
                 return false;
@@ -129,7 +130,7 @@ fn directories_end(pkg: &[u8], header: Section, tags: &[u32; Table::NUMBERS]) ->
 {
     let found = entry_for(pkg, header, tags, 1118);
     match found {
-        Found::At(entry) => slashes_end(pkg, entry.extent, entry.at.0),
+        Found::At(entry) => slashes_end(pkg, entry.extent, entry.at),
         Found::Nothing => true,
     }
 }

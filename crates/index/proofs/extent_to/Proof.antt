@@ -17,7 +17,7 @@ returns-2 : tie.Need-returns-2
 returns-2 c = search laws.extent-none
 
 returns-3 : tie.Need-returns-3
-returns-3 c = search laws.extent-open
+returns-3 c = search needs
 
 pub extent-to-spec : {M : Type 1} → statement M
 extent-to-spec = tie.close (tie.spec enum-known-end enum-told returns returns-2 returns-3)

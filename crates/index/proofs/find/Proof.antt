@@ -20,8 +20,8 @@ loop-holds c = (search needs, simp sub-zero)
 add-next : tie.Need-add-next Inv-loop μ-loop
 add-next c = search needs
 
-tag-at-requires : tie.Need-tag-at-requires Inv-loop μ-loop
-tag-at-requires c κs = search needs
+number-requires : tie.Need-number-requires Inv-loop μ-loop
+number-requires c κs = search needs
 
 index-record-requires : tie.Need-index-record-requires Inv-loop μ-loop
 index-record-requires c κs = search needs
@@ -61,7 +61,7 @@ find-spec =
     μ-loop
     loop-holds
     add-next
-    tag-at-requires
+    number-requires
     index-record-requires
     at-requires
     data-end-requires

@@ -4,8 +4,8 @@ use borrow.Author.Needs.{needs}
 use Rattle.package.proofs.structures.Statement.{statement}
 use Rattle.package.proofs.structures.Tie as tie
 
-cast-check : tie.Need-cast-check
-cast-check c = search needs
+cast-t12 : tie.Need-cast-t12
+cast-t12 c = search needs
 
 check-requires : tie.Need-check-requires
 check-requires c κs = search needs
@@ -41,7 +41,7 @@ pub structures-spec : {M : Type 1} → statement M
 structures-spec =
     tie.close
     (tie.spec
-    cast-check
+    cast-t12
     check-requires
     enum-known-first
     enum-known-first-2

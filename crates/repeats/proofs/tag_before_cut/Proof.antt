@@ -19,8 +19,8 @@ loop-holds c = (search needs, refl)
 sub-k : tie.Need-sub-k Inv-loop μ-loop
 sub-k c = search needs
 
-tag-at-requires : tie.Need-tag-at-requires Inv-loop μ-loop
-tag-at-requires c κs = search needs
+number-requires : tie.Need-number-requires Inv-loop μ-loop
+number-requires c κs = search needs
 
 returns : tie.Need-returns Inv-loop μ-loop
 returns c = search laws.ends
@@ -42,7 +42,7 @@ tag-before-cut-spec =
     μ-loop
     loop-holds
     sub-k
-    tag-at-requires
+    number-requires
     returns
     loop-less
     loop-again

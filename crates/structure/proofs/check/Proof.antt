@@ -4,6 +4,9 @@ use borrow.Author.Needs.{needs}
 use Rattle.structure.proofs.check.Statement.{statement}
 use Rattle.structure.proofs.check.Tie as tie
 
+in-file-requires : tie.Need-in-file-requires
+in-file-requires c κs = search needs
+
 at-requires : tie.Need-at-requires
 at-requires c κs = search needs
 
@@ -20,7 +23,8 @@ enum-told : tie.Need-enum-told
 enum-told c = search needs
 
 records-check-requires : tie.Need-records-check-requires
-records-check-requires c κs = search laws.store-small
+records-check-requires c κs =
+    laws.store-small _ (c .before .before .before .before .before .before .args .start .0) _ (c .before .before .header-check .ensures) (search needs) (search needs)
 
 enum-known-w : tie.Need-enum-known-w
 enum-known-w c = search needs
@@ -38,6 +42,7 @@ pub check-spec : {M : Type 1} → statement M
 check-spec =
     tie.close
     (tie.spec
+    in-file-requires
     at-requires
     header-check-requires
     enum-known-v

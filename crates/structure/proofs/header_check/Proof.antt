@@ -7,6 +7,9 @@ use borrow.Author.Needs.{needs}
 use Rattle.structure.proofs.header_check.Statement.{statement}
 use Rattle.structure.proofs.header_check.Tie as tie
 
+cast-first : tie.Need-cast-first
+cast-first c = search needs
+
 add-first : tie.Need-add-first
 add-first c = search needs
 
@@ -67,6 +70,7 @@ pub header-check-spec : {M : Type 1} → statement M
 header-check-spec =
     tie.close
     (tie.spec
+    cast-first
     add-first
     returns
     cast-reserved

@@ -20,8 +20,8 @@ loop-holds c = (search needs, simp sub-zero)
 index-record-requires : tie.Need-index-record-requires Inv-loop μ-loop
 index-record-requires c κs = search needs
 
-record-at-requires : tie.Need-record-at-requires Inv-loop μ-loop
-record-at-requires c κs = search needs
+record-requires : tie.Need-record-requires Inv-loop μ-loop
+record-requires c κs = search needs
 
 cast-entry-check : tie.Need-cast-entry-check Inv-loop μ-loop
 cast-entry-check c = search needs
@@ -58,7 +58,7 @@ records-check-spec =
     μ-loop
     loop-holds
     index-record-requires
-    record-at-requires
+    record-requires
     cast-entry-check
     entry-check-requires
     enum-known-v

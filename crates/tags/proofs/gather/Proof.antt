@@ -8,19 +8,16 @@ use Rattle.tags.proofs.gather.Statement.{statement}
 use Rattle.tags.proofs.gather.Tie as tie
 
 abbrev Inv-loop : tie.InvT-loop
-Inv-loop s section table₀ i₀ table i = (i ≤ section .nindex) × (table ≡ gatheredFrom s section (section .nindex - i) i)
+Inv-loop table₀ s section i₀ table i = (i ≤ section .nindex) × (table ≡ gatheredFrom s section table₀ (section .nindex - i) i)
 
 abbrev μ-loop : tie.MeasureT-loop
-μ-loop s section table₀ i₀ table i = i
+μ-loop table₀ s section i₀ table i = i
 
 loop-holds : tie.Need-loop-holds Inv-loop μ-loop
 loop-holds c = (search needs, search laws.none-yet)
 
 sub-i : tie.Need-sub-i Inv-loop μ-loop
 sub-i c = search needs
-
-index-record-requires : tie.Need-index-record-requires Inv-loop μ-loop
-index-record-requires c κs = search needs
 
 note-requires : tie.Need-note-requires Inv-loop μ-loop
 note-requires c κs = search needs
@@ -37,13 +34,4 @@ returns c = search laws.spent
 pub gather-spec : {M : Type 1} → statement M
 gather-spec =
     tie.close
-    (tie.spec
-    Inv-loop
-    μ-loop
-    loop-holds
-    sub-i
-    index-record-requires
-    note-requires
-    loop-less
-    loop-again
-    returns)
+    (tie.spec Inv-loop μ-loop loop-holds sub-i note-requires loop-less loop-again returns)

@@ -4,8 +4,8 @@ use borrow.Author.Needs.{needs}
 use Rattle.tags.proofs.note.Statement.{statement}
 use Rattle.tags.proofs.note.Tie as tie
 
-be32-requires : tie.Need-be32-requires
-be32-requires c κs = search needs
+number-requires : tie.Need-number-requires
+number-requires c κs = search needs
 
 slot-requires : tie.Need-slot-requires
 slot-requires c κs = search needs
@@ -22,11 +22,8 @@ mul-table c = search needs
 element-write-table : tie.Need-element-write-table
 element-write-table c = search needs
 
-add-be32 : tie.Need-add-be32
-add-be32 c = search needs
-
-be32-requires-2 : tie.Need-be32-requires-2
-be32-requires-2 c κs = search needs
+number-requires-2 : tie.Need-number-requires-2
+number-requires-2 c κs = search needs
 
 add-table : tie.Need-add-table
 add-table c = search needs
@@ -37,11 +34,8 @@ mul-table-2 c = search needs
 element-write-table-2 : tie.Need-element-write-table-2
 element-write-table-2 c = search needs
 
-add-be32-2 : tie.Need-add-be32-2
-add-be32-2 c = search needs
-
-be32-requires-3 : tie.Need-be32-requires-3
-be32-requires-3 c κs = search needs
+number-requires-3 : tie.Need-number-requires-3
+number-requires-3 c κs = search needs
 
 add-table-2 : tie.Need-add-table-2
 add-table-2 c = search needs
@@ -52,11 +46,8 @@ mul-table-3 c = search needs
 element-write-table-3 : tie.Need-element-write-table-3
 element-write-table-3 c = search needs
 
-add-be32-3 : tie.Need-add-be32-3
-add-be32-3 c = search needs
-
-be32-requires-4 : tie.Need-be32-requires-4
-be32-requires-4 c κs = search needs
+number-requires-4 : tie.Need-number-requires-4
+number-requires-4 c κs = search needs
 
 add-table-3 : tie.Need-add-table-3
 add-table-3 c = search needs
@@ -74,24 +65,21 @@ pub note-spec : {M : Type 1} → statement M
 note-spec =
     tie.close
     (tie.spec
-    be32-requires
+    number-requires
     slot-requires
     returns
     mul-to
     mul-table
     element-write-table
-    add-be32
-    be32-requires-2
+    number-requires-2
     add-table
     mul-table-2
     element-write-table-2
-    add-be32-2
-    be32-requires-3
+    number-requires-3
     add-table-2
     mul-table-3
     element-write-table-3
-    add-be32-3
-    be32-requires-4
+    number-requires-4
     add-table-3
     mul-table-4
     element-write-table-4

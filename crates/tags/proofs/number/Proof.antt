@@ -17,8 +17,8 @@ enum-known-found c = search needs
 in-file-requires : tie.Need-in-file-requires
 in-file-requires c κs = search needs
 
-be32-requires : tie.Need-be32-requires
-be32-requires c κs = search needs
+number-requires : tie.Need-number-requires
+number-requires c κs = search needs
 
 enum-told : tie.Need-enum-told
 enum-told c = search needs
@@ -26,7 +26,7 @@ enum-told c = search needs
 returns : tie.Need-returns
 returns c =
     by-case (numberAt _ _) (shownBy _ _) (search) (c .before .before .before .found .given .1)
-    (c .be32 .ensures ∙ ap (be32At _) (c .before .in-file .ensures))
+    (c .number .ensures ∙ ap (be32At _) (c .before .in-file .ensures))
 
 returns-2 : tie.Need-returns-2
 returns-2 c = by-case (numberAt _ _) (shownBy _ _) (search) (c .enum-told .given .1) refl
@@ -38,7 +38,7 @@ number-spec =
     look-requires
     enum-known-found
     in-file-requires
-    be32-requires
+    number-requires
     enum-told
     returns
     returns-2)

@@ -9,17 +9,17 @@ use Rattle.texts.proofs.all_below.Statement.{statement}
 use Rattle.texts.proofs.all_below.Tie as tie
 
 abbrev Inv-loop : tie.InvT-loop
-Inv-loop pkg limit n at left₀ i₀ left i = (i + 4 * left ≡ at + 4 * n)
-    × (allBelow pkg limit n at ≡ allBelow pkg limit left i)
+Inv-loop pkg limit n left₀ i₀ left i = (i + 4 * left ≡ i₀ + 4 * n)
+    × (allBelow pkg limit n i₀ ≡ allBelow pkg limit left i)
 
 abbrev μ-loop : tie.MeasureT-loop
-μ-loop pkg limit n at left₀ i₀ left i = left
+μ-loop pkg limit n left₀ i₀ left i = left
 
 loop-holds : tie.Need-loop-holds Inv-loop μ-loop
 loop-holds c = search needs
 
-be32-requires : tie.Need-be32-requires Inv-loop μ-loop
-be32-requires c κs = search needs
+number-requires : tie.Need-number-requires Inv-loop μ-loop
+number-requires c κs = search needs
 
 returns : tie.Need-returns Inv-loop μ-loop
 returns c = search laws.below-ends
@@ -46,7 +46,7 @@ all-below-spec =
     Inv-loop
     μ-loop
     loop-holds
-    be32-requires
+    number-requires
     returns
     add-i
     sub-left

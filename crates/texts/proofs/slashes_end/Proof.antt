@@ -10,17 +10,17 @@ use Rattle.texts.proofs.slashes_end.Statement.{statement}
 use Rattle.texts.proofs.slashes_end.Tie as tie
 
 abbrev Inv-loop : tie.InvT-loop
-Inv-loop pkg n at last₀ rest₀ i₀ last rest i = (i + rest ≡ at + n)
-    × (slashesEnd pkg 0 n at ≡ slashesEnd pkg last rest i)
+Inv-loop pkg n last₀ rest₀ i₀ last rest i = (i + rest ≡ i₀ + n)
+    × (slashesEnd pkg 0 n i₀ ≡ slashesEnd pkg last rest i)
 
 abbrev μ-loop : tie.MeasureT-loop
-μ-loop pkg n at last₀ rest₀ i₀ last rest i = rest
+μ-loop pkg n last₀ rest₀ i₀ last rest i = rest
 
 loop-holds : tie.Need-loop-holds Inv-loop μ-loop
 loop-holds c = search needs
 
-byte-at-requires : tie.Need-byte-at-requires Inv-loop μ-loop
-byte-at-requires c κs = search needs
+byte-requires : tie.Need-byte-requires Inv-loop μ-loop
+byte-requires c κs = search needs
 
 returns : tie.Need-returns Inv-loop μ-loop
 returns c = search laws.slash-ends
@@ -47,7 +47,7 @@ slashes-end-spec =
     Inv-loop
     μ-loop
     loop-holds
-    byte-at-requires
+    byte-requires
     returns
     add-i
     sub-rest

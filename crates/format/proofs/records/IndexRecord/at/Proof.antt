@@ -7,11 +7,17 @@ use Rattle.format.proofs.records.IndexRecord.at.Tie as tie
 returns : tie.Need-returns
 returns c = search laws.index-past
 
+cast-be32 : tie.Need-cast-be32
+cast-be32 c = search needs
+
 add-be32 : tie.Need-add-be32
 add-be32 c = search needs
 
 be32-requires : tie.Need-be32-requires
 be32-requires c κs = search needs
+
+cast-be32-2 : tie.Need-cast-be32-2
+cast-be32-2 c = search needs
 
 add-be32-2 : tie.Need-add-be32-2
 add-be32-2 c = search needs
@@ -19,11 +25,17 @@ add-be32-2 c = search needs
 be32-requires-2 : tie.Need-be32-requires-2
 be32-requires-2 c κs = search needs
 
+cast-be32-3 : tie.Need-cast-be32-3
+cast-be32-3 c = search needs
+
 add-be32-3 : tie.Need-add-be32-3
 add-be32-3 c = search needs
 
 be32-requires-3 : tie.Need-be32-requires-3
 be32-requires-3 c κs = search needs
+
+cast-be32-4 : tie.Need-cast-be32-4
+cast-be32-4 c = search needs
 
 add-be32-4 : tie.Need-add-be32-4
 add-be32-4 c = search needs
@@ -39,12 +51,16 @@ at-spec =
     tie.close
     (tie.spec
     returns
+    cast-be32
     add-be32
     be32-requires
+    cast-be32-2
     add-be32-2
     be32-requires-2
+    cast-be32-3
     add-be32-3
     be32-requires-3
+    cast-be32-4
     add-be32-4
     be32-requires-4
     returns-2)

@@ -1,12 +1,12 @@
--- The records that are left decide, four at a time and then the rest. Assumes nothing.
+-- The records that are left decide, four at a time, and at the end the first four. Assumes nothing.
 use Prim.Native.Nat.{_≤_}
 use mathlib.Core.Path.{_≡_, refl}
 use native.Mathlib.Omega.{arith}
 use borrow.Author.Needs.{needs}
 use Rattle.repeats.specs.Repeats.{tagBefore}
 use Rattle.repeats.proofs.RepeatLaws as laws
-use Rattle.repeats.proofs.tag_before_within.Statement.{statement}
-use Rattle.repeats.proofs.tag_before_within.Tie as tie
+use Rattle.repeats.proofs.tag_before_by_4.Statement.{statement}
+use Rattle.repeats.proofs.tag_before_by_4.Tie as tie
 
 abbrev Inv-loop : tie.InvT-loop
 Inv-loop s section i tag low k₀ k = (k ≤ i) × (tagBefore s section i tag ≡ tagBefore s section k tag)
@@ -53,14 +53,17 @@ loop-again-2 c =
           (search needs),
     )
 
-tag-before-near-requires : tie.Need-tag-before-near-requires Inv-loop μ-loop
-tag-before-near-requires c κs = search needs
+index-record-requires-2 : tie.Need-index-record-requires-2 Inv-loop μ-loop
+index-record-requires-2 c κs = search needs
+
+tag-in-4-requires-2 : tie.Need-tag-in-4-requires-2 Inv-loop μ-loop
+tag-in-4-requires-2 c κs = search needs
 
 returns-2 : tie.Need-returns-2 Inv-loop μ-loop
-returns-2 c = search laws.left
+returns-2 c = search laws.last-4
 
-pub tag-before-within-spec : {M : Type 1} → statement M
-tag-before-within-spec =
+pub tag-before-by-4-spec : {M : Type 1} → statement M
+tag-before-by-4-spec =
     tie.close
     (tie.spec
     Inv-loop
@@ -75,5 +78,6 @@ tag-before-within-spec =
     loop-again
     loop-less-2
     loop-again-2
-    tag-before-near-requires
+    index-record-requires-2
+    tag-in-4-requires-2
     returns-2)

@@ -1,8 +1,8 @@
 -- The four bytes, joined. Assumes nothing.
 use Rattle.be.specs.Numbers.{be32At}
 use borrow.Author.Needs.{needs}
-use Rattle.structure.proofs.be32_within.Statement.{statement}
-use Rattle.structure.proofs.be32_within.Tie as tie
+use Rattle.format.proofs.records.number_within.Statement.{statement}
+use Rattle.format.proofs.records.number_within.Tie as tie
 
 shared-slice-read-join32 : tie.Need-shared-slice-read-join32
 shared-slice-read-join32 c = search needs
@@ -32,8 +32,8 @@ returns : tie.Need-returns
 unfolding be32At
 returns c = search needs
 
-pub be32-within-spec : {M : Type 1} → statement M
-be32-within-spec =
+pub number-within-spec : {M : Type 1} → statement M
+number-within-spec =
     tie.close
     (tie.spec
     shared-slice-read-join32
