@@ -1,5 +1,5 @@
 -- Elements of an entry as parts of the package, for each way through the functions that make them; where they start.
-use Prim.Native.Nat.{ℕ, _+_, _-_, _*_, _≤_, _<_}
+use Prim.Native.Nat.{ℕ, _+_, _-_, _*_, _^_, _≤_, _<_}
 use mathlib.Core.Path.{_≡_, refl, sym, _∙_}
 use mathlib.Core.List.{List}
 use mathlib.Core.Bool.{Bool, true, false, cond}
@@ -14,11 +14,15 @@ use Rattle.strings.specs.declared.Ending.{Ending}
 use Rattle.strings.specs.declared.Ending.the-variants.{Ends, Open}
 use Rattle.strings.specs.Strings.{stringsFrom}
 use Rattle.strings.proofs.StringLaws.{bound}
+use Rattle.format.specs.declared.places.FileOffset.{FileOffset}
 use Rattle.format.specs.Sizes.{packageLimit}
+use Rattle.format.specs.Places.{behind}
+use Rattle.format.proofs.PlaceLaws.{near}
 use Rattle.entries.specs.declared.types.ElementSize.{ElementSize}
 use Rattle.entries.specs.declared.types.ElementSize.the-variants.{Bytes, ToZero, Unlawful}
 use Rattle.index.specs.declared.Entry.{Entry}
 use Rattle.entries.specs.Types.{elementSize}
+use Rattle.entries.proofs.EntryLaws.{product}
 use Rattle.index.specs.Lookup.{extentTo}
 use Rattle.structure.specs.Sound.{SoundEntry}
 use Rattle.lookups.specs.declared.Sought.{Sought}
@@ -27,30 +31,52 @@ use Rattle.lookups.specs.Lookup.{sought}
 use Rattle.elements.specs.Elements.{stringPart, elementFor, elementOf, elementIn, elementAs, soughtElement}
 use Rattle.lookups.proofs.SeekLaws.{sought-sound}
 
--- a single string, by where the run before it ended
-module _ (s : List ℕ) (entry : Entry) {run : Ending} where
-  pub part-ends : {from n : ℕ} {next : Ending} → run ≡ Ends from
-      → next ≡ stringsFrom s (entry .at .0 + entry .extent - from) from 1 → n ≡ extentTo from next
-      → _≡_ {A = Entry} (record { ty = entry .ty; count = 1; at = record { 0 = from }; extent = n }) (stringPart s entry run)
-  part-ends h p q = rw (h, q, p)
+-- a single string, by where the run of the k before it ended
+module _ (s : List ℕ) (entry : Entry) (k : ℕ) (b : entry .at .0 + entry .extent ≤ packageLimit) {end : ℕ} {run : Ending}
+    (d : end ≡ behind (entry .at .0) (entry .extent)) (q : run ≡ stringsFrom s (end - entry .at .0) (entry .at .0) k) where
+  ended : end ≡ entry .at .0 + entry .extent
+  ended = near (entry .at .0) (entry .extent) d (omega arith)
+
+  before : run ≡ stringsFrom s (entry .extent) (entry .at .0) k
+  before =
+      let e = ended in
+      let m : end - entry .at .0 ≡ entry .extent = omega arith in
+      rw m at q
+
+  module _ {from : ℕ} (h : run ≡ Ends from) where
+    placed : {n place : ℕ} → n ≡ extentTo (entry .at .0) run → place ≡ behind (entry .at .0) n → place ≡ from
+    placed {n} {place} p r =
+        let l = bound s (entry .extent) (entry .at .0) k from (sym before ∙ h) in
+        let m : n ≡ from - entry .at .0 = p ∙ rw h in
+        let g : place ≡ entry .at .0 + n = near (entry .at .0) n r (omega arith) in
+        omega (arith, l)
+
+    pub part-ends : {n extent : ℕ} {place : FileOffset} {next : Ending} → n ≡ extentTo (entry .at .0) run
+        → place .0 ≡ behind (entry .at .0) n → next ≡ stringsFrom s (end - place .0) (place .0) 1
+        → extent ≡ extentTo (place .0) next
+        → _≡_ {A = Entry} (record { ty = entry .ty; count = 1; at = place; extent = extent })
+        (stringPart s entry (stringsFrom s (entry .extent) (entry .at .0) k))
+    part-ends p r f g = rw (← before, h, g, f, placed p r, ended)
 
   pub part-open : run ≡ Open
-      → _≡_ {A = Entry} (record { ty = entry .ty; count = 1; at = entry .at; extent = 0 }) (stringPart s entry run)
-  part-open h = rw h
+      → _≡_ {A = Entry} (record { ty = entry .ty; count = 1; at = entry .at; extent = 0 })
+      (stringPart s entry (stringsFrom s (entry .extent) (entry .at .0) k))
+  part-open h = rw (← before, h)
 
 -- an element, by the element size that was found
 module _ (s : List ℕ) (entry : Entry) (k : ℕ) {size : ElementSize} (p : size ≡ elementSize (entry .ty)) where
-  pub element-fixed : {n : ℕ} → size ≡ Bytes n
-      → _≡_ {A = Entry} (record { ty = entry .ty; count = 1; at = record { 0 = entry .at .0 + n * k }; extent = n }) (elementOf s entry k)
+  pub element-fixed : {n : ℕ} {place : FileOffset} → size ≡ Bytes n → place .0 ≡ behind (entry .at .0) (n * k)
+      → entry .at .0 + entry .extent ≤ packageLimit → k < 2 ^ 32
+      → _≡_ {A = Entry} (record { ty = entry .ty; count = 1; at = place; extent = n }) (elementOf s entry k)
   unfolding elementOf
-  element-fixed h = rw (← p, h)
+  element-fixed {n} h d b l =
+      let m = product (entry .ty) k p h l in
+      rw (← p, h, near (entry .at .0) (n * k) d (omega (arith, m)))
 
-  pub element-string : {run : Ending} {r : Entry} {end : ℕ} → size ≡ ToZero → end ≡ entry .at .0 + entry .extent
-      → run ≡ stringsFrom s (end - entry .at .0) (entry .at .0) k → r ≡ stringPart s entry run → r ≡ elementOf s entry k
+  pub element-string : {r : Entry} → size ≡ ToZero
+      → r ≡ stringPart s entry (stringsFrom s (entry .extent) (entry .at .0) k) → r ≡ elementOf s entry k
   unfolding elementOf
-  element-string {end = end} h e q j =
-      let m : end - entry .at .0 ≡ entry .extent = omega arith in
-      rw (← p, h) (rw (q, m) at j)
+  element-string h j = rw (← p, h) j
 
   pub element-unlawful : size ≡ Unlawful
       → _≡_ {A = Entry} (record { ty = entry .ty; count = 1; at = entry .at; extent = 0 }) (elementOf s entry k)
@@ -115,18 +141,18 @@ as-small s which tag ty k (Here entry) h e q = go (ltb k (entry .count)) refl q
     go false t j = let z : _≡_ {A = ℕ} 0 1 = cc in omega arith
 as-small s which tag ty k (Refused number place) h e q = let z : _≡_ {A = ℕ} 0 1 = cc in omega arith
 
-pub element-fits : (s : List ℕ) (which tag ty k : ℕ) {found : Sought} {e : Entry} → found ≡ soughtElement s which tag ty k
-    → found ≡ Here e → Fits w32 (e .at .0)
+pub element-fits : (s : List ℕ) (which tag ty k : ℕ) {found : Sought} {e : Entry} {place : ℕ}
+    → found ≡ soughtElement s which tag ty k → found ≡ Here e → place ≡ e .at .0 → Fits w32 place
 unfolding soughtElement
-element-fits s which tag ty k {e = e} p h =
+element-fits s which tag ty k {e = e} p h q =
     let l = as-small s which tag ty k (sought s which tag ty) refl e (sym p ∙ h) in
     record { fits = omega arith }
 
 -- an element of any entry
 module _ (s : List ℕ) (entry : Entry) (k : ℕ) where
-  pub in-package : {r : Entry} → entry .at .0 ≤ packageLimit → entry .extent ≤ packageLimit - entry .at .0
+  pub in-package : {r : Entry} {from : ℕ} → from ≡ entry .at .0 → from ≤ packageLimit → entry .extent ≤ packageLimit - from
       → r ≡ elementOf s entry k → r ≡ elementIn s entry k
-  in-package a b q = rw (le-leb (entry .at .0 + entry .extent) packageLimit (omega arith)) q
+  in-package e a b q = rw (le-leb (entry .at .0 + entry .extent) packageLimit (omega arith)) q
 
   pub in-none : packageLimit < entry .at .0 + entry .extent
       → _≡_ {A = Entry} (record { ty = entry .ty; count = 1; at = entry .at; extent = 0 }) (elementIn s entry k)

@@ -1,6 +1,7 @@
 // Look-ups of the elements of an entry: check 26.
 ghost use mathlib.Core.Path.{_≡_};
 ghost use Prim.Native.Nat.{_+_, _≤_};
+ghost use Rattle.strings.specs.Strings.{stringsFrom};
 ghost use Rattle.format.specs.Sizes.{packageLimit};
 ghost use Rattle.elements.specs.Elements.{stringPart, elementOf, elementIn, soughtElement, findElementBytes, findElementAnswer};
 use entries::ElementSize;
@@ -13,16 +14,18 @@ use lookups::seek;
 use lookups::shown;
 use strings::Ending;
 
-// The single string that starts where a run of strings ended.
-fn string_part(pkg: &[u8], entry: Entry, run: Ending) -> Entry
+// String `k` of an entry of strings that lies in a package: it starts where the `k` before it end.
+fn string_part(pkg: &[u8], entry: Entry, k: u32) -> Entry
     requires { ⌜ entry .at .0 + entry .extent ≤ packageLimit ⌝ }
-    ensures { λ r. ⌜ r ≡ stringPart (now (pkg .entry)) entry run ⌝ }
+    ensures { λ r. ⌜ r ≡ stringPart (now (pkg .entry)) entry (stringsFrom (now (pkg .entry)) (entry .extent) (entry .at .0) k) ⌝ }
 {
+    let at = entry.at;
+    let end = at.behind(entry.extent);
+    let run = at.strings_end(pkg, end, k);
     match run {
-        Ending::Ends(from) => {
-            let place = FileOffset(from);
-            let end = entry.at.0 + entry.extent;
-            let next = place.strings_end(pkg, FileOffset(end), 1);
+        Ending::Ends(_) => {
+            let place = at.behind(index::extent_to(at, run));
+            let next = place.strings_end(pkg, end, 1);
             let extent = index::extent_to(place, next);
             Entry {
                 ty: entry.ty,
@@ -31,15 +34,12 @@ fn string_part(pkg: &[u8], entry: Entry, run: Ending) -> Entry
                 extent: extent,
             }
         }
-        Ending::Open => {
-            let at = entry.at;
-            Entry {
-                ty: entry.ty,
-                count: 1,
-                at: at,
-                extent: 0,
-            }
-        }
+        Ending::Open => Entry {
+            ty: entry.ty,
+            count: 1,
+            at: at,
+            extent: 0,
+        },
     }
 }
 
@@ -53,19 +53,14 @@ fn element_of(pkg: &[u8], entry: Entry, k: u32) -> Entry
     match size {
         ElementSize::Bytes(n) => {
             let before = n * k as usize;
-            let from = at.0 + before;
             Entry {
                 ty: entry.ty,
                 count: 1,
-                at: FileOffset(from),
+                at: at.behind(before),
                 extent: n,
             }
         }
-        ElementSize::ToZero => {
-            let end = at.0 + entry.extent;
-            let run = at.strings_end(pkg, FileOffset(end), k);
-            string_part(pkg, entry, run)
-        }
+        ElementSize::ToZero => string_part(pkg, entry, k),
         ElementSize::Unlawful => Entry {
             ty: entry.ty,
             count: 1,
@@ -80,8 +75,9 @@ pub fn element(pkg: &[u8], entry: Entry, k: u32) -> Entry
     ensures { λ r. ⌜ r ≡ elementIn (now (pkg .entry)) entry k ⌝ }
 {
     let at = entry.at;
-    if at.0 <= FileOffset::LIMIT {
-        let room = FileOffset::LIMIT - at.0;
+    let from = at.get();
+    if from <= FileOffset::LIMIT {
+        let room = FileOffset::LIMIT - from;
         if entry.extent <= room {
             return element_of(pkg, entry, k);
         }
@@ -125,7 +121,7 @@ pub fn find_element_answer(pkg: &[u8], which: u32, tag: u32, ty: u32, k: u32) ->
     let found = seek_element(pkg, which, tag, ty, k);
     match found {
         Sought::Here(entry) => {
-            let place = entry.at.0 as u32;
+            let place = entry.at.get() as u32;
             Answer::Done(place)
         }
         Sought::Refused(number, place) => Answer::Refused(number, place),

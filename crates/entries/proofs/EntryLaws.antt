@@ -48,14 +48,14 @@ product ty {n = n} count q h k =
 
 -- k is the element size that was found
 module _ (s : List ℕ) (section : Section) (e : IndexRecord) {k : ElementSize} (q : k ≡ elementSize (e .ty)) where
-  pub end-fits : {n from : ℕ} → k ≡ Bytes n → from ≡ inFile section (e .offset)
-      → e .offset .0 + n * e .count ≤ section .hsize → Ends (from + n * e .count) ≡ dataEnd s section e
+  pub end-fits : {n o from at : ℕ} → k ≡ Bytes n → o ≡ e .offset .0 → from ≡ inFile section (e .offset) → at ≡ from
+      → o + n * e .count ≤ section .hsize → Ends (at + n * e .count) ≡ dataEnd s section e
   unfolding dataEnd
-  end-fits {n} h f l = rw (← q, h, le-leb (e .offset .0 + n * e .count) (section .hsize) l, f)
+  end-fits {n} {o} h g f p l = rw (← q, h, ← g, le-leb (o + n * e .count) (section .hsize) l, p, f, g)
 
-  pub end-past : {n : ℕ} → k ≡ Bytes n → section .hsize < e .offset .0 + n * e .count → Open ≡ dataEnd s section e
+  pub end-past : {n o : ℕ} → k ≡ Bytes n → o ≡ e .offset .0 → section .hsize < o + n * e .count → Open ≡ dataEnd s section e
   unfolding dataEnd
-  end-past {n} h l = rw (← q, h, lt-leb (e .offset .0 + n * e .count) (section .hsize) l)
+  end-past {n} {o} h g l = rw (← q, h, ← g, lt-leb (o + n * e .count) (section .hsize) l)
 
   pub end-strings : {r : Ending} {from end : ℕ} → k ≡ ToZero → from ≡ inFile section (e .offset) → end ≡ sectionEnd section
       → r ≡ stringsFrom s (end - from) from (e .count) → r ≡ dataEnd s section e
@@ -73,11 +73,11 @@ module _ (e : IndexRecord) {n : ℕ} (q : Bytes n ≡ elementSize (e .ty)) where
   pub fixed-lawful : isLawful (elementSize (e .ty)) ≡ true
   fixed-lawful = rw (← q)
 
-  pub fixed-aligned : e .offset .0 % n ≡ 0 → alignedTo (elementSize (e .ty)) (e .offset .0) ≡ true
-  fixed-aligned h = rw (← q) (eq-eqb (e .offset .0 % n) 0 h)
+  pub fixed-aligned : {o : ℕ} → o ≡ e .offset .0 → o % n ≡ 0 → alignedTo (elementSize (e .ty)) (e .offset .0) ≡ true
+  fixed-aligned {o} g h = rw (← q, ← g) (eq-eqb (o % n) 0 h)
 
-  pub fixed-astray : (e .offset .0 % n ≡ 0 → ⊥) → alignedTo (elementSize (e .ty)) (e .offset .0) ≡ false
-  fixed-astray h = rw (← q) (ne-eqb (e .offset .0 % n) 0 h)
+  pub fixed-astray : {o : ℕ} → o ≡ e .offset .0 → (o % n ≡ 0 → ⊥) → alignedTo (elementSize (e .ty)) (e .offset .0) ≡ false
+  fixed-astray {o} g h = rw (← q, ← g) (ne-eqb (o % n) 0 h)
 
   pub fixed-some : 1 ≤ n
   fixed-some = bytes-small (e .ty) n (sym q) .0
@@ -85,13 +85,13 @@ module _ (e : IndexRecord) {n : ℕ} (q : Bytes n ≡ elementSize (e .ty)) where
   pub fixed-product : e .count < 2 ^ 32 → n * e .count < 2 ^ 34
   fixed-product k = let m = bytes-small (e .ty) n (sym q) in omega (arith, mul-le-mul-right (e .count) (m .1))
 
-  pub fixed-inside : (section : Section) → e .offset .0 + n * e .count ≤ section .hsize
+  pub fixed-inside : (section : Section) {o : ℕ} → o ≡ e .offset .0 → o + n * e .count ≤ section .hsize
       → isEnded (endFor (Bytes n) [] section e) ≡ true
-  fixed-inside section l = rw (le-leb (e .offset .0 + n * e .count) (section .hsize) l)
+  fixed-inside section {o} g l = rw (← g, le-leb (o + n * e .count) (section .hsize) l)
 
-  pub fixed-outside : (section : Section) → section .hsize < e .offset .0 + n * e .count
+  pub fixed-outside : (section : Section) {o : ℕ} → o ≡ e .offset .0 → section .hsize < o + n * e .count
       → isEnded (endFor (Bytes n) [] section e) ≡ false
-  fixed-outside section l = rw (lt-leb (e .offset .0 + n * e .count) (section .hsize) l)
+  fixed-outside section {o} g l = rw (← g, lt-leb (o + n * e .count) (section .hsize) l)
 
   -- the end of fixed data does not depend on the bytes
   pub fixed-data : (s : List ℕ) (section : Section) (place : ℕ) {v : Verdict} → v ≡ dataCheck place e (endFor (Bytes n) [] section e)

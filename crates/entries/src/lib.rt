@@ -37,8 +37,8 @@ pub fn data_end(s: &[u8], section: Section, e: IndexRecord) -> Ending
     match size {
         ElementSize::Bytes(n) => {
             let bytes = n * e.count as usize;
-            if e.offset.0 as usize + bytes <= section.hsize as usize {
-                Ending::Ends(from.0 + bytes)
+            if e.offset.get() as usize + bytes <= section.hsize as usize {
+                Ending::Ends(from.get() + bytes)
             } else {
                 Ending::Open
             }
@@ -59,7 +59,7 @@ fn fixed_check(section: Section, place: u32, e: IndexRecord, n: usize) -> Verdic
     if !count_right(e) {
         return Verdict::Fail(10, place);
     }
-    let offset = e.offset.0 as usize;
+    let offset = e.offset.get() as usize;
     if offset % n != 0 {
         return Verdict::Fail(11, place);
     }

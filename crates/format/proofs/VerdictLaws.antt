@@ -19,6 +19,12 @@ pub stopped : {ok : Bool} {number place : ℕ} (rest : Verdict) → ok ≡ false
 unfolding check
 stopped rest h = rw h
 
+-- the same with the place as it was computed
+pub stopped-at : {ok : Bool} {number place here : ℕ} (rest : Verdict) → here ≡ place → ok ≡ false
+    → Fail number here ≡ check ok number place rest
+unfolding check
+stopped-at rest e h = rw (h, e)
+
 pub both-pass : {v rest : Verdict} → v ≡ Pass → both v rest ≡ rest
 unfolding both
 both-pass h = rw h

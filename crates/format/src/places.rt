@@ -6,7 +6,7 @@ ghost use lib.ListN.{length, getD, take, drop};
 ghost use lib.Dec.{leb, ltb};
 ghost use Rattle.be.specs.Numbers.{be32At};
 ghost use Rattle.strings.specs.Strings.{stringsFrom};
-ghost use Rattle.format.specs.Places.{recordPlace, storePlace, sectionEnd, inFile};
+ghost use Rattle.format.specs.Places.{behind, recordPlace, storePlace, sectionEnd, inFile};
 ghost use Rattle.format.specs.Records.{indexRecordAt};
 use crate::records::HeaderRecord;
 use crate::records::IndexRecord;
@@ -14,13 +14,13 @@ use crate::records::number_within;
 use strings::Ending;
 
 // A place in the file.
-pub struct FileOffset(pub usize);
+pub struct FileOffset(pub(crate) usize);
 
 // A place in a store, from the store's start.
-pub struct StoreOffset(pub u32);
+pub struct StoreOffset(pub(crate) u32);
 
 // Where a structure starts: a place in the file of 32 bits, so that every place in the structure fits.
-pub struct Start(pub u32);
+pub struct Start(pub(crate) u32);
 
 // A header structure: where it starts in the file, its number of index records and its store's size.
 pub struct Section {
@@ -32,6 +32,25 @@ pub struct Section {
 impl FileOffset {
     // The largest length of a package.
     pub const LIMIT: usize = 65536;
+    // The last place of all.
+    const LAST: usize = 18446744073709551615;
+
+    // How many bytes of the file stand before it.
+    pub fn get(self) -> usize
+        ensures { λ r. ⌜ r ≡ self .0 ⌝ }
+    {
+        self.0
+    }
+
+    // The place `n` bytes behind it, or the last place of all.
+    pub fn behind(self, n: usize) -> FileOffset
+        ensures { λ r. ⌜ r .0 ≡ behind (self .0) n ⌝ }
+    {
+        if Self::LAST - self.0 < n {
+            return FileOffset(Self::LAST);
+        }
+        FileOffset(self.0 + n)
+    }
 
     // The byte of a package at this place.
     pub fn byte(self, pkg: &[u8]) -> u8
@@ -63,6 +82,18 @@ impl FileOffset {
 }
 
 impl Start {
+    pub fn of(n: u32) -> Start
+        ensures { λ r. ⌜ r .0 ≡ n ⌝ }
+    {
+        Start(n)
+    }
+
+    pub fn get(self) -> u32
+        ensures { λ r. ⌜ r ≡ self .0 ⌝ }
+    {
+        self.0
+    }
+
     // The start as a place in the file.
     pub fn in_file(self) -> FileOffset
         ensures { λ r. ⌜ r .0 ≡ self .0 ⌝ }
@@ -135,6 +166,19 @@ impl Section {
 }
 
 impl StoreOffset {
+    pub fn of(n: u32) -> StoreOffset
+        ensures { λ r. ⌜ r .0 ≡ n ⌝ }
+    {
+        StoreOffset(n)
+    }
+
+    // How many bytes of the store stand before it.
+    pub fn get(self) -> u32
+        ensures { λ r. ⌜ r ≡ self .0 ⌝ }
+    {
+        self.0
+    }
+
     // The place in the file of a place in a structure's store: the one conversion of the two.
     pub fn in_file(self, section: Section) -> FileOffset
         ensures { λ r. ⌜ r .0 ≡ inFile section self ⌝ }

@@ -23,11 +23,12 @@ use Rattle.index.specs.declared.Tagged.the-variants.{Present, Absent}
 use Rattle.entries.specs.Entries.{recordAt, dataEnd}
 use Rattle.index.specs.Lookup.{extentTo, entryOf, entryAt, isFor, findFrom}
 
-pub extent-ends : (from : ℕ) {end : Ending} {to : ℕ} → end ≡ Ends to → from ≤ to → to - from ≡ extentTo from end
-extent-ends from h l = rw h
+module _ (from : ℕ) {at to : ℕ} (e : at ≡ from) {end : Ending} (h : end ≡ Ends to) where
+  pub extent-ends : at ≤ to → to - at ≡ extentTo from end
+  extent-ends l = rw (e, h)
 
-pub extent-none : (from : ℕ) {end : Ending} {to : ℕ} → end ≡ Ends to → to < from → 0 ≡ extentTo from end
-extent-none from {to = to} h l = rw h (omega arith)
+  pub extent-none : to < at → 0 ≡ extentTo from end
+  extent-none l = rw h (omega arith)
 
 pub extent-open : (from : ℕ) {end : Ending} → end ≡ Open → 0 ≡ extentTo from end
 extent-open from h = rw h

@@ -31,8 +31,9 @@ pub enum Tagged {
 pub fn extent_to(from: FileOffset, end: Ending) -> usize
     ensures { λ r. ⌜ r ≡ extentTo (from .0) end ⌝ }
 {
+    let start = from.get();
     match end {
-        Ending::Ends(to) => { if from.0 <= to { to - from.0 } else { 0 } }
+        Ending::Ends(to) => { if start <= to { to - start } else { 0 } }
         Ending::Open => 0,
     }
 }

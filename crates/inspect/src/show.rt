@@ -66,7 +66,7 @@ pub(crate) fn put_found(answer: Answer, bytes: &[u8]) {
 
 // The line of an index record.
 fn put_record(place: u32, found: IndexRecord) {
-    put_line(&[place, found.tag, found.ty, found.offset.0, found.count]);
+    put_line(&[place, found.tag, found.ty, found.offset.get(), found.count]);
 }
 
 // What ends a walk: the end of the index, of which nothing is shown, or a refusal.

@@ -78,8 +78,8 @@ bytes-here s h k = rw h k
 
 -- number and place of what was sought
 module _ {f found : Sought} (p : found ≡ f) where
-  pub answer-here : {entry : Entry} → found ≡ Here entry → answer.Done (entry .at .0) ≡ soughtAnswer f
-  answer-here h = rw (sym p ∙ h)
+  pub answer-here : {entry : Entry} {place : ℕ} → found ≡ Here entry → place ≡ entry .at .0 → answer.Done place ≡ soughtAnswer f
+  answer-here h e = rw (sym p ∙ h, e)
 
   pub answer-refused : {number place : ℕ} → found ≡ Refused number place → answer.Refused number place ≡ soughtAnswer f
   answer-refused h = rw (sym p ∙ h)
@@ -108,9 +108,9 @@ sought-sound s which tag ty entry h =
     (found-in s (structureOf s which) tag ty entry (eqb which 0) (k .0) refl (k .1), sound-size s (k .0))
 
 -- it starts at a 32-bit place
-pub sought-fits : (s : List ℕ) (which tag ty : ℕ) {found : Sought} {entry : Entry} → found ≡ sought s which tag ty
-    → found ≡ Here entry → Fits w32 (entry .at .0)
-sought-fits s which tag ty {entry = entry} p h =
+pub sought-fits : (s : List ℕ) (which tag ty : ℕ) {found : Sought} {entry : Entry} {place : ℕ} → found ≡ sought s which tag ty
+    → found ≡ Here entry → place ≡ entry .at .0 → Fits w32 place
+sought-fits s which tag ty {entry = entry} p h e =
     let k = sought-sound s which tag ty entry (sym p ∙ h) in
     let b = k .0 .inside in
     record { fits = omega arith }

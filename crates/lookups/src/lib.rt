@@ -69,7 +69,7 @@ pub fn find_answer(pkg: &[u8], which: u32, tag: u32, ty: u32) -> Answer
     let found = seek(pkg, which, tag, ty);
     match found {
         Sought::Here(entry) => {
-            let place = entry.at.0 as u32;
+            let place = entry.at.get() as u32;
             Answer::Done(place)
         }
         Sought::Refused(number, place) => Answer::Refused(number, place),

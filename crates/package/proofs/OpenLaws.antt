@@ -28,7 +28,10 @@ use Rattle.package.specs.Package.{sizeCheck, headerStart, signatureAt, h
 use Rattle.package.specs.Package.{packageCheck, soundCheck, openedAs, structuresOpened, opened, sectionFor}
 
 -- the signature as it was checked
-module _ (s : List ℕ) (len : ℕ) {a : Checked} (p : a ≡ structureChecked s len leadSize) where
+module _ (s : List ℕ) (len : ℕ) {first : ℕ} {a : Checked} (e : first ≡ leadSize) (r : a ≡ structureChecked s len first) where
+  p : a ≡ structureChecked s len leadSize
+  p = r ∙ ap (structureChecked s len) e
+
   pub first-refused : {number place : ℕ} → a ≡ checked.Unsound number place → Unsound number place ≡ structuresOpened s len
   unfolding structuresCheck
   first-refused h = rw (both-fail _ (checked-unsound _ _ (sym p ∙ h)))

@@ -66,7 +66,7 @@ fn header_start(signature: Section) -> Start
     ensures { λ r. ⌜ r .0 ≡ headerStart signature ⌝ }
 {
     let end = signature.end();
-    Start(((end.0 + 7) / 8 * 8) as u32)
+    Start::of(((end.get() + 7) / 8 * 8) as u32)
 }
 
 // Checks 5 to 13 for the signature and then the header.
@@ -74,7 +74,7 @@ fn structures(pkg: &[u8], len: u32) -> Opened
     requires { ⌜ len ≤ packageLimit ⌝ }
     ensures { λ r. ⌜ r ≡ structuresOpened (now (pkg .entry)) len ⌝ }
 {
-    let first = structure::check(pkg, len, Start(Lead::SIZE as u32));
+    let first = structure::check(pkg, len, Start::of(Lead::SIZE as u32));
     match first {
         Checked::Unsound(number, place) => Opened::Unsound(number, place),
         Checked::Sound(signature) => {

@@ -1,4 +1,4 @@
--- Laws of `tagBefore` and `tagAmong`: a tag by its last byte (low-differs, joined), four records (four-first .. four-last), and
+-- Laws of `tagBefore` and `tagAmong`: a tag by its last byte (differs, joined), four records (four-first .. four-last), and
 -- a turn of the loops over them, by how a tag was found (turn, ends; turn-is, ends-is; turn-4, ends-4; last-4, spent).
 use Prim.Native.Nat.{ℕ, zero, suc, _+_, _-_, _*_, _%_, _≤_, _<_}
 use mathlib.Core.Path.{_≡_, refl, sym, ap, _∙_}
@@ -19,15 +19,21 @@ unfolding be32At
 low-byte s at tag q b = omega arith
 
 -- the last byte of a tag decides where it differs
-pub low-differs : (s : List ℕ) (at tag : ℕ) {low : ℕ} → low ≡ tag % 256 → getD s (at + 3) 0 < 256
+low-differs : (s : List ℕ) (at tag : ℕ) {low : ℕ} → low ≡ tag % 256 → getD s (at + 3) 0 < 256
     → (getD s (at + 3) 0 ≡ low → ⊥) → false ≡ eqb (be32At s at) tag
 low-differs s at tag m b h = sym (ne-eqb (be32At s at) tag (λ q. h (low-byte s at tag q b ∙ sym m)))
 
-pub joined : (s : List ℕ) (at tag : ℕ) {r : ℕ}
-    → r ≡ getD s at 0 * 16777216 + getD s (at + 1) 0 * 65536 + getD s (at + 2) 0 * 256 + getD s (at + 3) 0
-    → eqb r tag ≡ eqb (be32At s at) tag
-unfolding be32At
-joined s at tag p = rw p
+-- a tag n bytes behind a place, whose number is at
+module _ (s : List ℕ) (place n tag : ℕ) {at : ℕ} (e : at ≡ place) where
+  pub differs : {low : ℕ} → low ≡ tag % 256 → getD s (at + n + 3) 0 < 256 → (getD s (at + n + 3) 0 ≡ low → ⊥)
+      → false ≡ eqb (be32At s (place + n)) tag
+  differs m b h = rw (← e) (low-differs s (at + n) tag m b h)
+
+  pub joined : {r : ℕ}
+      → r ≡ getD s (at + n) 0 * 16777216 + getD s (at + n + 1) 0 * 65536 + getD s (at + n + 2) 0 * 256 + getD s (at + n + 3) 0
+      → eqb r tag ≡ eqb (be32At s (place + n)) tag
+  unfolding be32At
+  joined p = rw (← e, p)
 
 step : (s : List ℕ) (section : Section) (tag k : ℕ)
     → tagBefore s section (suc k) tag ≡ (eqb (be32At s (recordPlace section k)) tag || tagBefore s section k tag)
@@ -63,24 +69,26 @@ back s section tag k (suc n) =
     (tagBefore s section k tag))
 
 -- the four last bytes, for each way through the tests of them
-module _ (s : List ℕ) (at low : ℕ) where
-  pub low-first : getD s (at + 3) 0 ≡ low → true ≡ lowAmong s at low
+module _ (s : List ℕ) (place low : ℕ) {at : ℕ} (e : at ≡ place) where
+  pub low-first : getD s (at + 3) 0 ≡ low → true ≡ lowAmong s place low
   unfolding lowAmong
-  low-first h = rw (eq-eqb (getD s (at + 3) 0) low h)
+  low-first h = rw (← e, eq-eqb (getD s (at + 3) 0) low h)
 
   module _ (h : getD s (at + 3) 0 ≡ low → ⊥) where
-    pub low-second : getD s (at + 19) 0 ≡ low → true ≡ lowAmong s at low
+    pub low-second : getD s (at + 19) 0 ≡ low → true ≡ lowAmong s place low
     unfolding lowAmong
-    low-second k = rw (ne-eqb (getD s (at + 3) 0) low h, eq-eqb (getD s (at + 19) 0) low k)
+    low-second k = rw (← e, ne-eqb (getD s (at + 3) 0) low h, eq-eqb (getD s (at + 19) 0) low k)
 
     module _ (k : getD s (at + 19) 0 ≡ low → ⊥) where
-      pub low-third : getD s (at + 35) 0 ≡ low → true ≡ lowAmong s at low
+      pub low-third : getD s (at + 35) 0 ≡ low → true ≡ lowAmong s place low
       unfolding lowAmong
-      low-third m = rw (ne-eqb (getD s (at + 3) 0) low h, ne-eqb (getD s (at + 19) 0) low k, eq-eqb (getD s (at + 35) 0) low m)
+      low-third m =
+          rw (← e, ne-eqb (getD s (at + 3) 0) low h, ne-eqb (getD s (at + 19) 0) low k, eq-eqb (getD s (at + 35) 0) low m)
 
-      pub low-last : (getD s (at + 35) 0 ≡ low → ⊥) → eqb (getD s (at + 51) 0) low ≡ lowAmong s at low
+      pub low-last : (getD s (at + 35) 0 ≡ low → ⊥) → eqb (getD s (at + 51) 0) low ≡ lowAmong s place low
       unfolding lowAmong
-      low-last m = rw (ne-eqb (getD s (at + 3) 0) low h, ne-eqb (getD s (at + 19) 0) low k, ne-eqb (getD s (at + 35) 0) low m)
+      low-last m =
+          rw (← e, ne-eqb (getD s (at + 3) 0) low h, ne-eqb (getD s (at + 19) 0) low k, ne-eqb (getD s (at + 35) 0) low m)
 
 -- where none of the four has the last byte, none has the tag
 or-parts : (a b c d : Bool) → (a || (b || (c || d))) ≡ false → (a ≡ false) × ((b ≡ false) × ((c ≡ false) × (d ≡ false)))
@@ -103,10 +111,8 @@ module _ (s : List ℕ) (at tag : ℕ) {a : Bool} (p : a ≡ eqb (be32At s (at +
       pub four-third : c ≡ true → true ≡ tagAmong s at 4 tag
       four-third m = sym (among-4 s at tag ∙ rw (← p, ← q, ← r, h, k, m))
 
-      pub four-last : {d : Bool} → d ≡ eqb (be32At s at) tag → c ≡ false → d ≡ tagAmong s at 4 tag
-      four-last {d} w m =
-          let z : at + 0 ≡ at = omega arith in
-          sym (among-4 s at tag ∙ rw (← p, ← q, ← r, h, k, m, z, ← w) (or-false d))
+      pub four-last : {d : Bool} → d ≡ eqb (be32At s (at + 0)) tag → c ≡ false → d ≡ tagAmong s at 4 tag
+      four-last {d} w m = sym (among-4 s at tag ∙ rw (← p, ← q, ← r, h, k, m, ← w) (or-false d))
 
 no-tag : (s : List ℕ) (at tag low : ℕ) → low ≡ tag % 256 → ((n : ℕ) → getD s n 0 < 256) → lowAmong s at low ≡ false
     → tagAmong s at 4 tag ≡ false
@@ -148,11 +154,11 @@ module _ (s : List ℕ) (section : Section) (tag k : ℕ) {v : Bool} (inv : v �
     ends h = sym (read ∙ rw (eq-eqb r tag h))
 
   -- whether record k - 1 has the tag, as it was found at its place
-  module _ {at : ℕ} {r : Bool} (d : at ≡ recordPlace section (k - 1)) (p : r ≡ eqb (be32At s at) tag) (l : 0 < k) where
+  module _ {at : ℕ} {r : Bool} (d : at ≡ recordPlace section (k - 1)) (p : r ≡ eqb (be32At s (at + 0)) tag) (l : 0 < k) where
     found : v ≡ (r || tagBefore s section (k - 1) tag)
     found =
         let j : k ≡ suc (k - 1) = omega arith in
-        inv ∙ ap (λ (n : ℕ). tagBefore s section n tag) j ∙ step s section tag (k - 1) ∙ rw (p, d)
+        inv ∙ ap (λ (n : ℕ). tagBefore s section n tag) j ∙ step s section tag (k - 1) ∙ rw (p, d, add-zero)
 
     pub turn-is : r ≡ false → v ≡ tagBefore s section (k - 1) tag
     turn-is h = found ∙ rw h

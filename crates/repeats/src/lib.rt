@@ -10,12 +10,12 @@ use format::FileOffset;
 use format::IndexRecord;
 use format::Section;
 
-// Whether the record at a place has the tag, whose last byte is `low`. Most tags differ in it.
-fn tag_is(s: &[u8], place: FileOffset, low: u8, tag: u32) -> bool
-    requires { ⌜ (place .0 + 4 ≤ length (now s)) × (low ≡ tag % 256) ⌝ }
-    ensures { λ r. ⌜ r ≡ eqb (be32At (now (s .entry)) (place .0)) tag ⌝ }
+// Whether the record `n` bytes behind a place has the tag, whose last byte is `low`. Most tags differ in it.
+fn tag_is(s: &[u8], place: FileOffset, n: usize, low: u8, tag: u32) -> bool
+    requires { ⌜ (place .0 + n + 4 ≤ length (now s)) × (low ≡ tag % 256) ⌝ }
+    ensures { λ r. ⌜ r ≡ eqb (be32At (now (s .entry)) (place .0 + n)) tag ⌝ }
 {
-    let at = place.0;
+    let at = place.get() + n;
     if s[at + 3] != low {
         return false;
     }
@@ -27,7 +27,7 @@ fn low_in_4(s: &[u8], place: FileOffset, low: u8) -> bool
     requires { ⌜ place .0 + 64 ≤ length (now s) ⌝ }
     ensures { λ r. ⌜ r ≡ lowAmong (now (s .entry)) (place .0) low ⌝ }
 {
-    let at = place.0;
+    let at = place.get();
     if s[at + 3] == low {
         return true;
     }
@@ -45,17 +45,16 @@ fn tag_in_4(s: &[u8], place: FileOffset, low: u8, tag: u32) -> bool
     requires { ⌜ (place .0 + 64 ≤ length (now s)) × (low ≡ tag % 256) ⌝ }
     ensures { λ r. ⌜ r ≡ tagAmong (now (s .entry)) (place .0) 4 tag ⌝ }
 {
-    let at = place.0;
-    if tag_is(s, FileOffset(at + 48), low, tag) {
+    if tag_is(s, place, 48, low, tag) {
         return true;
     }
-    if tag_is(s, FileOffset(at + 32), low, tag) {
+    if tag_is(s, place, 32, low, tag) {
         return true;
     }
-    if tag_is(s, FileOffset(at + 16), low, tag) {
+    if tag_is(s, place, 16, low, tag) {
         return true;
     }
-    tag_is(s, place, low, tag)
+    tag_is(s, place, 0, low, tag)
 }
 
 // Whether one of the first `i` records has the tag (check 13), in a slice that may end before them.
@@ -82,7 +81,7 @@ fn tag_before_near(s: &[u8], section: Section, i: u32, tag: u32) -> bool
     while 0 < k {
         k -= 1;
         let place = section.index_record(k);
-        if tag_is(s, place, low, tag) {
+        if tag_is(s, place, 0, low, tag) {
             return true;
         }
     }
@@ -114,7 +113,7 @@ pub fn tag_before(s: &[u8], section: Section, i: u32, tag: u32) -> bool
     ensures { λ r. ⌜ r ≡ tagBefore (now (s .entry)) section i tag ⌝ }
 {
     let end = section.index_record(i);
-    if s.len() < end.0 {
+    if s.len() < end.get() {
         return tag_before_cut(s, section, i, tag);
     }
     if i < 4 {

@@ -4,8 +4,6 @@ use mathlib.Core.Path.{_≡_, refl, sym, ap, _∙_}
 use mathlib.Core.List.{List}
 use mathlib.Core.Bool.{Bool, true, false, cond}
 use lib.ListN.{take, drop}
-use mir.Syntax.{w64}
-use mir.Val.{Fits}
 use native.Mathlib.Omega.{arith}
 use borrow.Author.Tests.{eq-eqb, ne-eqb}
 use Rattle.strings.specs.declared.Ending.{Ending}
@@ -16,6 +14,8 @@ use Rattle.strings.proofs.StringLaws.{bound, positive, split}
 use Rattle.format.specs.declared.places.Section.{Section}
 use Rattle.format.specs.declared.verdict.Verdict.the-variants.{Pass}
 use Rattle.format.specs.Sizes.{packageLimit}
+use Rattle.format.specs.Places.{behind}
+use Rattle.format.proofs.PlaceLaws.{near}
 use Rattle.entries.specs.declared.types.ElementSize.the-variants.{ToZero}
 use Rattle.index.specs.declared.Entry.{Entry}
 use Rattle.index.specs.declared.Found.{Found}
@@ -69,8 +69,11 @@ module _ (s : List ℕ) (names : Entry) (sound : SoundEntry s packageLimit names
   text = rw (strings, inv)
 
   -- in the shape of what is known in a turn
-  module _ {end n : ℕ} {run : Ending} (e : end ≡ names .at .0 + names .extent) (p : run ≡ stringsFrom s (end - at) at 1)
-      (q : n ≡ extentTo at run) where
+  module _ {end n : ℕ} {run : Ending} (d : end ≡ behind (names .at .0) (names .extent))
+      (p : run ≡ stringsFrom s (end - at) at 1) (q : n ≡ extentTo at run) where
+    e : end ≡ names .at .0 + names .extent
+    e = let i = sound .inside in near (names .at .0) (names .extent) d (omega arith)
+
     reached : n ≡ next .0 - at
     reached = q ∙ ap (extentTo at) (p ∙ ap (λ (x : ℕ). stringsFrom s (x - at) at 1) e ∙ next .2)
 
@@ -80,16 +83,15 @@ module _ (s : List ℕ) (names : Entry) (sound : SoundEntry s packageLimit names
     pub some : 1 ≤ n
     some = let b = bounds in let r = reached in omega arith
 
-    pub fits : Fits w64 (at + n)
-    fits =
+    pub turn-at : {place : ℕ} → place ≡ behind at n → stringsFrom s (names .extent) (names .at .0) (k + 1) ≡ Ends place
+    turn-at {place} f =
         let b = bounds in
         let r = reached in
         let c = bound s _ _ _ at inv .1 in
         let i = sound .inside in
-        record { fits = omega arith }
-
-    pub turn-at : stringsFrom s (names .extent) (names .at .0) (k + 1) ≡ Ends (at + n)
-    turn-at = let b = bounds in let r = reached in let w : at + n ≡ next .0 = omega arith in rw w (next .1)
+        let g : place ≡ at + n = near at n f (omega arith) in
+        let w : place ≡ next .0 = omega arith in
+        rw w (next .1)
 
     same-text : {t : List ℕ} → t ≡ take (n - 1) (drop at s) → t ≡ textOf s (elementOf s names k)
     same-text h = h ∙ rw (q, p, e) (sym text)

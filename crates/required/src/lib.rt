@@ -10,7 +10,6 @@ ghost use Rattle.entries.specs.Types.{elementSize};
 ghost use Rattle.package.specs.Package.{soundCheck, headerAt};
 ghost use Rattle.required.specs.Version.{versionFrom, versionIn, soughtVersion, requiredVersion};
 use elements::element;
-use format::FileOffset;
 use format::Section;
 use index::Entry;
 use index::Found;
@@ -36,18 +35,17 @@ fn beside(pkg: &[u8], name: &[u8], names: Entry, versions: Entry) -> Sought
         × (elementSize (names .ty) ≡ ToZero) ⌝ }
     ensures { λ r. ⌜ r ≡ versionFrom (now (pkg .entry)) (now (name .entry)) names versions (names .count) 0 ⌝ }
 {
-    let mut at = names.at.0;
+    let end = names.at.behind(names.extent);
+    let mut at = names.at;
     let mut k = 0;
     while k < names.count {
-        let place = FileOffset(at);
-        let end = names.at.0 + names.extent;
-        let run = place.strings_end(pkg, FileOffset(end), 1);
-        let extent = index::extent_to(place, run);
-        let text = place.part(pkg, extent - 1);
+        let run = at.strings_end(pkg, end, 1);
+        let extent = index::extent_to(at, run);
+        let text = at.part(pkg, extent - 1);
         if be::same(text, name) {
             return Sought::Here(element(pkg, versions, k));
         }
-        at += extent;
+        at = at.behind(extent);
         k += 1;
     }
     Sought::Refused(25, 0)

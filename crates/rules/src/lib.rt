@@ -26,7 +26,7 @@ fn size_tag_check(
 ) -> Verdict
     ensures { λ r. ⌜ r ≡ sizeTagCheck (now (pkg .entry)) len signature header (shownBy (now (tags .entry))) ⌝ }
 {
-    if tags::number(pkg, signature, tags, 1000) != left_from(header.start.0, len) {
+    if tags::number(pkg, signature, tags, 1000) != left_from(header.start.get(), len) {
         return Verdict::Fail(16, 1000);
     }
     Verdict::Pass

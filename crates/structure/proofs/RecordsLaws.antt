@@ -36,8 +36,8 @@ module _ (s : List ℕ) (section : Section) where
 
 -- the same, in the shape of what is known in a turn: e is the record that was read, r what its checks found, and v what the
 -- run began with
-module _ (s : List ℕ) (section : Section) {place : ℕ} {e : IndexRecord} {r v : Verdict} (n i : ℕ)
-    (p : place ≡ recordPlace section i) (q : e ≡ recordAt s section i)
+module _ (s : List ℕ) (section : Section) {at place : ℕ} {e : IndexRecord} {r v : Verdict} (n i : ℕ)
+    (p : at ≡ recordPlace section i) (g : place ≡ at) (q : e ≡ recordAt s section i)
     (h : r ≡ entryCheck s section i place e (dataEnd s section e)) (l : i < n)
     (inv : v ≡ recordsFrom s section (n - i) i) where
   here : r ≡ recordCheck s section i

@@ -22,7 +22,7 @@ fn header_check(len: u32, start: Start, h: HeaderRecord) -> Verdict
     ensures { λ r. ⌜ r ≡ headerCheck len (start .0) h ⌝ }
 {
     let room = len as usize;
-    let magic = start.0;
+    let magic = start.get();
     let first = magic as usize + HeaderRecord::SIZE;
     if room < first {
         return Verdict::Fail(5, magic);
@@ -48,7 +48,7 @@ fn header_check(len: u32, start: Start, h: HeaderRecord) -> Verdict
         hsize: h.hsize,
     };
     let end = section.end();
-    if room < end.0 {
+    if room < end.get() {
         return Verdict::Fail(8, hsize);
     }
     Verdict::Pass
@@ -64,7 +64,7 @@ fn records_check(s: &[u8], section: Section) -> Verdict
     while i < n {
         let place = section.index_record(i);
         let e = section.record(s, n, i);
-        let v = entry_check(s, section, i, place.0 as u32, e);
+        let v = entry_check(s, section, i, place.get() as u32, e);
         if let Verdict::Fail(number, at) = v {
             return Verdict::Fail(number, at);
         }

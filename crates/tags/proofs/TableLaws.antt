@@ -10,6 +10,7 @@ use native.Mathlib.Omega.{arith}
 use native.Mathlib.Nat.{add-zero}
 use borrow.Author.Tests.{eq-eqb, ne-eqb, lt-ltb, le-ltb}
 use Rattle.be.specs.Numbers.{be32At}
+use Rattle.format.specs.declared.places.StoreOffset.{StoreOffset}
 use Rattle.format.specs.Records.{indexRecordAt}
 use Rattle.index.specs.declared.Tagged.{Tagged}
 use Rattle.index.specs.declared.Tagged.the-variants.{Present, Absent}
@@ -30,10 +31,10 @@ module _ (t : List ℕ) (tag : ℕ) {k : ℕ} (e : k ≡ slotOf tag) where
     unfolding shownBy
     there h = rw (← e, lt-ltb k slots l, eq-eqb (getD t (4 * k) 0) tag h)
 
-    pub made : {ty offset count : ℕ} → ty ≡ getD t (4 * k + 1) 0 → offset ≡ getD t (4 * k + 2) 0
+    pub made : {ty n count : ℕ} {offset : StoreOffset} → ty ≡ getD t (4 * k + 1) 0 → n ≡ getD t (4 * k + 2) 0 → offset .0 ≡ n
         → count ≡ getD t (4 * k + 3) 0 → getD t (4 * k) 0 ≡ tag
-        → Present (record { tag = tag; ty = ty; offset = record { 0 = offset }; count = count }) ≡ shownBy t tag
-    made p q r h = ap Present (rw (p, q, r, ← h)) ∙ there h
+        → Present (record { tag = tag; ty = ty; offset = offset; count = count }) ≡ shownBy t tag
+    made p q e r h = ap Present (rw (p, e, q, r, ← h)) ∙ there h
 
     pub has-other : (getD t (4 * k) 0 ≡ tag → ⊥) → false ≡ isPresent (shownBy t tag)
     has-other h = ap isPresent (other h)

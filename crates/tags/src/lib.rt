@@ -102,7 +102,7 @@ pub fn look(table: &[u32; Table::NUMBERS], tag: u32) -> Tagged
     Tagged::Present(IndexRecord {
         tag: tag,
         ty: ty,
-        offset: StoreOffset(offset),
+        offset: StoreOffset::of(offset),
         count: count,
     })
 }

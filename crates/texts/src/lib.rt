@@ -76,12 +76,12 @@ fn all_below(pkg: &[u8], limit: u32, n: u32, place: FileOffset) -> bool
     ensures { λ r. ⌜ r ≡ allBelow (now (pkg .entry)) limit n (place .0) ⌝ }
 {
     let mut left = n;
-    let mut i = place.0;
+    let mut here = place;
     while 0 < left {
-        if limit <= FileOffset(i).number(pkg) {
+        if limit <= here.number(pkg) {
             return false;
         }
-        i += 4;
+        here = here.behind(4);
         left -= 1;
     }
     true
@@ -109,16 +109,16 @@ fn slashes_end(pkg: &[u8], n: usize, place: FileOffset) -> bool
 {
     let mut last = 0;
     let mut rest = n;
-    let mut i = place.0;
+    let mut here = place;
     while 0 < rest {
-        let b = FileOffset(i).byte(pkg);
+        let b = here.byte(pkg);
         if b == 0 {
             if last != b'/' {
                 return false;
             }
         }
         last = b;
-        i += 1;
+        here = here.behind(1);
         rest -= 1;
     }
     true

@@ -8,6 +8,7 @@ use lib.ListN.{length}
 use native.Mathlib.Omega.{arith}
 use borrow.Author.Tests.{lt-ltb, le-ltb}
 use Rattle.format.specs.declared.places.Section.{Section}
+use Rattle.format.specs.declared.places.StoreOffset.{StoreOffset}
 use Rattle.format.specs.declared.records.IndexRecord.{IndexRecord}
 use Rattle.format.specs.declared.verdict.Answer.the-variants as answer
 use Rattle.format.specs.declared.verdict.Verdict.the-variants.{Pass}
@@ -22,12 +23,22 @@ use Rattle.package.specs.Package.{headerStart, signatureAt, headerAt, sectionFo
 use Rattle.walk.specs.Walk.{refusedStep, stepIn, stepOf}
 use Rattle.package.proofs.OpenLaws.{opened-sound, opened-unsound, sound-size, sound-signature, sound-header}
 
+pub zeros : (number place position : ℕ) {offset : StoreOffset} → offset .0 ≡ 0
+    → _≡_ {A = Step}
+    (record {
+      answer = answer.Refused number place;
+      found = record { tag = 0; ty = 0; offset = offset; count = 0 };
+      next = record { number = position };
+    })
+    (refusedStep number place position)
+zeros number place position h = rw h
+
 module _ (s : List ℕ) (section : Section) (position : ℕ) where
-  pub step-taken : {place : ℕ} {e : IndexRecord} → position < section .nindex → place ≡ recordPlace section position
-      → e ≡ indexRecordAt s place
-      → _≡_ {A = Step} (record { answer = answer.Done place; found = e; next = record { number = position + 1 } })
+  pub step-taken : {place at : ℕ} {e : IndexRecord} → position < section .nindex → place ≡ recordPlace section position
+      → e ≡ indexRecordAt s place → at ≡ place
+      → _≡_ {A = Step} (record { answer = answer.Done at; found = e; next = record { number = position + 1 } })
       (stepIn s section position)
-  step-taken l p q = rw (lt-ltb position (section .nindex) l, q, p)
+  step-taken l p q r = rw (lt-ltb position (section .nindex) l, q, r, p)
 
   pub step-past : {r : Step} → section .nindex ≤ position → r ≡ refusedStep 26 0 position → r ≡ stepIn s section position
   step-past l h = rw (le-ltb position (section .nindex) l) h

@@ -34,7 +34,7 @@ fn refused(number: u32, place: u32, position: u32) -> Step
         found: IndexRecord {
             tag: 0,
             ty: 0,
-            offset: StoreOffset(0),
+            offset: StoreOffset::of(0),
             count: 0,
         },
         next: Position { number: position },
@@ -49,7 +49,7 @@ fn step_in(pkg: &[u8], section: Section, position: u32) -> Step
     if position < section.nindex {
         let place = section.index_record(position);
         let found = IndexRecord::at(pkg, place);
-        let at = place.0 as u32;
+        let at = place.get() as u32;
         let next = position + 1;
         return Step {
             answer: Answer::Done(at),

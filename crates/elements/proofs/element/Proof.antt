@@ -5,6 +5,9 @@ use borrow.Author.Needs.{needs}
 use Rattle.elements.proofs.element.Statement.{statement}
 use Rattle.elements.proofs.element.Tie as tie
 
+get-requires : tie.Need-get-requires
+get-requires c κs = search needs
+
 element-of-requires : tie.Need-element-of-requires
 element-of-requires c κs = search needs
 
@@ -18,4 +21,4 @@ returns-3 : tie.Need-returns-3
 returns-3 c = laws.in-none _ _ _ (omega arith)
 
 pub element-spec : {M : Type 1} → statement M
-element-spec = tie.close (tie.spec element-of-requires returns returns-2 returns-3)
+element-spec = tie.close (tie.spec get-requires element-of-requires returns returns-2 returns-3)

@@ -16,18 +16,11 @@ mul-before : tie.Need-mul-before
 mul-before c = let at-call = c .before .before .before .before in
     omega (arith, product _ (at-call .before .before .args .k) (at-call .element-size .ensures) (c .before .size .given .1) (search needs))
 
-add-from : tie.Need-add-from
-add-from c = let at-call = c .before .before .before .before .before in
-    omega (arith, product _ (at-call .before .before .args .k) (at-call .element-size .ensures) (c .before .before .size .given .1) (search needs))
+behind-requires : tie.Need-behind-requires
+behind-requires c κs = search needs
 
 enum-told : tie.Need-enum-told
 enum-told c = search needs
-
-add-end : tie.Need-add-end
-add-end c = search needs
-
-strings-end-requires : tie.Need-strings-end-requires
-strings-end-requires c κs = search needs
 
 string-part-requires : tie.Need-string-part-requires
 string-part-requires c κs = search needs
@@ -51,10 +44,8 @@ element-of-spec =
     element-size-requires
     enum-known-size
     mul-before
-    add-from
+    behind-requires
     enum-told
-    add-end
-    strings-end-requires
     string-part-requires
     enum-told-2
     returns

@@ -11,6 +11,9 @@ seek-element-requires c κs = search needs
 enum-known-found : tie.Need-enum-known-found
 enum-known-found c = search needs
 
+get-requires : tie.Need-get-requires
+get-requires c κs = search needs
+
 cast-place : tie.Need-cast-place
 cast-place c = search laws.element-fits
 
@@ -29,6 +32,7 @@ find-element-answer-spec =
     (tie.spec
     seek-element-requires
     enum-known-found
+    get-requires
     cast-place
     enum-known-found-2
     returns

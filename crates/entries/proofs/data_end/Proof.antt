@@ -22,6 +22,9 @@ mul-bytes c =
     let at-call = c .before .before .before .before .before in
     omega (arith, laws.product _ (at-call .before .before .args .e .count) (at-call .element-size .ensures) (c .before .before .size .given .1) (search needs))
 
+get-requires : tie.Need-get-requires
+get-requires c κs = search needs
+
 cast-if1 : tie.Need-cast-if1
 cast-if1 c = search needs
 
@@ -33,8 +36,11 @@ add-if1 c =
 cast-if1-2 : tie.Need-cast-if1-2
 cast-if1-2 c = search needs
 
-add-t15 : tie.Need-add-t15
-add-t15 c = search needs
+get-requires-2 : tie.Need-get-requires-2
+get-requires-2 c κs = search needs
+
+add-t17 : tie.Need-add-t17
+add-t17 c = search needs
 
 enum-told : tie.Need-enum-told
 enum-told c = search needs
@@ -69,10 +75,12 @@ data-end-spec =
     enum-known-size
     cast-bytes
     mul-bytes
+    get-requires
     cast-if1
     add-if1
     cast-if1-2
-    add-t15
+    get-requires-2
+    add-t17
     enum-told
     end-requires
     strings-end-requires

@@ -14,6 +14,9 @@ returns : tie.Need-returns
 unfolding dataCheck
 returns c = search (passed, stopped, answers, laws.fixed) depth 14
 
+get-requires : tie.Need-get-requires
+get-requires c κs = search needs
+
 cast-offset : tie.Need-cast-offset
 cast-offset c = search needs
 
@@ -50,6 +53,7 @@ fixed-check-spec =
     (tie.spec
     count-right-requires
     returns
+    get-requires
     cast-offset
     rem-if2
     returns-2

@@ -4,6 +4,9 @@ use borrow.Author.Needs.{needs}
 use Rattle.index.proofs.extent_to.Statement.{statement}
 use Rattle.index.proofs.extent_to.Tie as tie
 
+get-requires : tie.Need-get-requires
+get-requires c κs = search needs
+
 enum-known-end : tie.Need-enum-known-end
 enum-known-end c = search needs
 
@@ -20,4 +23,5 @@ returns-3 : tie.Need-returns-3
 returns-3 c = search needs
 
 pub extent-to-spec : {M : Type 1} → statement M
-extent-to-spec = tie.close (tie.spec enum-known-end enum-told returns returns-2 returns-3)
+extent-to-spec =
+    tie.close (tie.spec get-requires enum-known-end enum-told returns returns-2 returns-3)

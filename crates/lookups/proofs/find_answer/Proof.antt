@@ -10,6 +10,9 @@ seek-requires c κs = search needs
 enum-known-found : tie.Need-enum-known-found
 enum-known-found c = search needs
 
+get-requires : tie.Need-get-requires
+get-requires c κs = search needs
+
 cast-place : tie.Need-cast-place
 cast-place c = search laws.sought-fits
 
@@ -25,4 +28,11 @@ returns-2 c = search laws.answer-refused
 pub find-answer-spec : {M : Type 1} → statement M
 find-answer-spec =
     tie.close
-    (tie.spec seek-requires enum-known-found cast-place enum-known-found-2 returns returns-2)
+    (tie.spec
+    seek-requires
+    enum-known-found
+    get-requires
+    cast-place
+    enum-known-found-2
+    returns
+    returns-2)

@@ -4,8 +4,11 @@ use borrow.Author.Needs.{needs}
 use Rattle.package.proofs.structures.Statement.{statement}
 use Rattle.package.proofs.structures.Tie as tie
 
-cast-t12 : tie.Need-cast-t12
-cast-t12 c = search needs
+cast-of : tie.Need-cast-of
+cast-of c = search needs
+
+of-requires : tie.Need-of-requires
+of-requires c κs = search needs
 
 check-requires : tie.Need-check-requires
 check-requires c κs = search needs
@@ -41,7 +44,8 @@ pub structures-spec : {M : Type 1} → statement M
 structures-spec =
     tie.close
     (tie.spec
-    cast-t12
+    cast-of
+    of-requires
     check-requires
     enum-known-first
     enum-known-first-2

@@ -4,26 +4,17 @@ use borrow.Author.Needs.{needs}
 use Rattle.repeats.proofs.tag_in_4.Statement.{statement}
 use Rattle.repeats.proofs.tag_in_4.Tie as tie
 
-add-t7 : tie.Need-add-t7
-add-t7 c = search needs
-
 tag-is-requires : tie.Need-tag-is-requires
 tag-is-requires c κs = search needs
 
 returns : tie.Need-returns
 returns c = search laws.four-first
 
-add-t7-2 : tie.Need-add-t7-2
-add-t7-2 c = search needs
-
 tag-is-requires-2 : tie.Need-tag-is-requires-2
 tag-is-requires-2 c κs = search needs
 
 returns-2 : tie.Need-returns-2
 returns-2 c = search laws.four-second
-
-add-t7-3 : tie.Need-add-t7-3
-add-t7-3 c = search needs
 
 tag-is-requires-3 : tie.Need-tag-is-requires-3
 tag-is-requires-3 c κs = search needs
@@ -41,13 +32,10 @@ pub tag-in-4-spec : {M : Type 1} → statement M
 tag-in-4-spec =
     tie.close
     (tie.spec
-    add-t7
     tag-is-requires
     returns
-    add-t7-2
     tag-is-requires-2
     returns-2
-    add-t7-3
     tag-is-requires-3
     returns-3
     tag-is-requires-4

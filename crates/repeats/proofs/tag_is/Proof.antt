@@ -6,6 +6,12 @@ use borrow.Author.Needs.{needs}
 use Rattle.repeats.proofs.tag_is.Statement.{statement}
 use Rattle.repeats.proofs.tag_is.Tie as tie
 
+get-requires : tie.Need-get-requires
+get-requires c κs = search needs
+
+add-at : tie.Need-add-at
+add-at c = search needs
+
 add-if1 : tie.Need-add-if1
 add-if1 c = search needs
 
@@ -14,10 +20,11 @@ shared-slice-read-if1 c = search needs
 
 returns : tie.Need-returns
 returns c =
-    let known = c .before .before in
+    let at-get = c .before .before in
+    let known = at-get .before in
     let start = known .before in
-    laws.low-differs _ (start .args .place .0) _ (start .pre .1)
-    (omega (arith, known .shared-slice-known .given (start .args .place .0 + 3))) (c .if1 .taken)
+    laws.differs _ (start .args .place .0) (start .args .n) _ (at-get .get .ensures) (start .pre .1)
+    (omega (arith, known .shared-slice-known .given (at-get .get .result + start .args .n + 3))) (c .if1 .taken)
 
 shared-slice-read-join32 : tie.Need-shared-slice-read-join32
 shared-slice-read-join32 c = search needs
@@ -50,6 +57,8 @@ pub tag-is-spec : {M : Type 1} → statement M
 tag-is-spec =
     tie.close
     (tie.spec
+    get-requires
+    add-at
     add-if1
     shared-slice-read-if1
     returns

@@ -11,19 +11,19 @@ use Rattle.required.proofs.beside.Statement.{statement}
 use Rattle.required.proofs.beside.Tie as tie
 
 abbrev Inv-loop : tie.InvT-loop
-Inv-loop pkg name names versions at₀ k₀ at k = (k ≤ names .count)
-    × (stringsFrom pkg (names .extent) (names .at .0) k ≡ Ends at)
+Inv-loop pkg name names versions end at₀ k₀ at k = (k ≤ names .count)
+    × (stringsFrom pkg (names .extent) (names .at .0) k ≡ Ends (at .0))
     × (versionFrom pkg name names versions (names .count) 0 ≡ versionFrom pkg name names versions (names .count - k) k)
 
 abbrev μ-loop : tie.MeasureT-loop
-μ-loop pkg name names versions at₀ k₀ at k = names .count - k
+μ-loop pkg name names versions end at₀ k₀ at k = names .count - k
+
+behind-requires : tie.Need-behind-requires Inv-loop μ-loop
+behind-requires c κs = search needs
 
 loop-holds : tie.Need-loop-holds Inv-loop μ-loop
 unfolding stringsFrom
 loop-holds c = (search needs, refl, simp sub-zero)
-
-add-end : tie.Need-add-end Inv-loop μ-loop
-add-end c = search needs
 
 strings-end-requires : tie.Need-strings-end-requires Inv-loop μ-loop
 strings-end-requires c κs = search needs
@@ -46,8 +46,8 @@ element-requires c κs = search needs
 returns : tie.Need-returns Inv-loop μ-loop
 returns c = search laws.ends
 
-add-at : tie.Need-add-at Inv-loop μ-loop
-add-at c = search laws.fits
+behind-requires-2 : tie.Need-behind-requires-2 Inv-loop μ-loop
+behind-requires-2 c κs = search needs
 
 add-k : tie.Need-add-k Inv-loop μ-loop
 add-k c = search needs
@@ -67,8 +67,8 @@ beside-spec =
     (tie.spec
     Inv-loop
     μ-loop
+    behind-requires
     loop-holds
-    add-end
     strings-end-requires
     extent-to-requires
     sub-part
@@ -76,7 +76,7 @@ beside-spec =
     same-requires
     element-requires
     returns
-    add-at
+    behind-requires-2
     add-k
     loop-less
     loop-again

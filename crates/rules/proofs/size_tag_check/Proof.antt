@@ -9,6 +9,9 @@ use Rattle.rules.proofs.size_tag_check.Tie as tie
 number-requires : tie.Need-number-requires
 number-requires c κs = search needs
 
+get-requires : tie.Need-get-requires
+get-requires c κs = search needs
+
 left-from-requires : tie.Need-left-from-requires
 left-from-requires c κs = search needs
 
@@ -21,4 +24,5 @@ unfolding sizeTagCheck
 returns-2 c = rw (← (c .before .left-from .ensures)) (search (passed, stopped, same-number, other-number))
 
 pub size-tag-check-spec : {M : Type 1} → statement M
-size-tag-check-spec = tie.close (tie.spec number-requires left-from-requires returns returns-2)
+size-tag-check-spec =
+    tie.close (tie.spec number-requires get-requires left-from-requires returns returns-2)

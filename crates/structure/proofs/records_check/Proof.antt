@@ -23,6 +23,9 @@ index-record-requires c κs = search needs
 record-requires : tie.Need-record-requires Inv-loop μ-loop
 record-requires c κs = search needs
 
+get-requires : tie.Need-get-requires Inv-loop μ-loop
+get-requires c κs = search needs
+
 cast-entry-check : tie.Need-cast-entry-check Inv-loop μ-loop
 cast-entry-check c = search needs
 
@@ -59,6 +62,7 @@ records-check-spec =
     loop-holds
     index-record-requires
     record-requires
+    get-requires
     cast-entry-check
     entry-check-requires
     enum-known-v

@@ -49,6 +49,9 @@ mul-count c = search needs
 element-copy-out-count : tie.Need-element-copy-out-count
 element-copy-out-count c = search needs
 
+of-requires : tie.Need-of-requires
+of-requires c κs = search needs
+
 returns-3 : tie.Need-returns-3
 returns-3 c = search laws.made
 
@@ -71,4 +74,5 @@ look-spec =
     add-count
     mul-count
     element-copy-out-count
+    of-requires
     returns-3)

@@ -4,16 +4,18 @@ use Prim.Native.Nat.{_+_, _*_}
 use mathlib.Core.Path.{_≡_}
 use borrow.Author.Needs.{needs}
 use Rattle.texts.specs.Texts.{allBelow}
+use native.Mathlib.Omega.{arith}
+use Rattle.format.proofs.PlaceLaws.{near}
 use Rattle.texts.proofs.TextsLaws as laws
 use Rattle.texts.proofs.all_below.Statement.{statement}
 use Rattle.texts.proofs.all_below.Tie as tie
 
 abbrev Inv-loop : tie.InvT-loop
-Inv-loop pkg limit n left₀ i₀ left i = (i + 4 * left ≡ i₀ + 4 * n)
-    × (allBelow pkg limit n i₀ ≡ allBelow pkg limit left i)
+Inv-loop pkg limit n left₀ here₀ left here = (here .0 + 4 * left ≡ here₀ .0 + 4 * n)
+    × (allBelow pkg limit n (here₀ .0) ≡ allBelow pkg limit left (here .0))
 
 abbrev μ-loop : tie.MeasureT-loop
-μ-loop pkg limit n left₀ i₀ left i = left
+μ-loop pkg limit n left₀ here₀ left here = left
 
 loop-holds : tie.Need-loop-holds Inv-loop μ-loop
 loop-holds c = search needs
@@ -24,8 +26,8 @@ number-requires c κs = search needs
 returns : tie.Need-returns Inv-loop μ-loop
 returns c = search laws.below-ends
 
-add-i : tie.Need-add-i Inv-loop μ-loop
-add-i c = search needs
+behind-requires : tie.Need-behind-requires Inv-loop μ-loop
+behind-requires c κs = search needs
 
 sub-left : tie.Need-sub-left Inv-loop μ-loop
 sub-left c = search needs
@@ -34,7 +36,9 @@ loop-less : tie.Need-loop-less Inv-loop μ-loop
 loop-less c = search needs
 
 loop-again : tie.Need-loop-again Inv-loop μ-loop
-loop-again c = (search needs, search laws.below-turn)
+loop-again c =
+    let m = near _ 4 (c .behind .ensures) (search needs) in
+    (omega (arith, m), rw m (search laws.below-turn))
 
 returns-2 : tie.Need-returns-2 Inv-loop μ-loop
 returns-2 c = search laws.below-spent
@@ -48,7 +52,7 @@ all-below-spec =
     loop-holds
     number-requires
     returns
-    add-i
+    behind-requires
     sub-left
     loop-less
     loop-again

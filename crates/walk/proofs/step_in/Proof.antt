@@ -10,6 +10,9 @@ index-record-requires c κs = search needs
 at-requires : tie.Need-at-requires
 at-requires c κs = search needs
 
+get-requires : tie.Need-get-requires
+get-requires c κs = search needs
+
 cast-at : tie.Need-cast-at
 cast-at c = search needs
 
@@ -31,6 +34,7 @@ step-in-spec =
     (tie.spec
     index-record-requires
     at-requires
+    get-requires
     cast-at
     add-next
     returns
