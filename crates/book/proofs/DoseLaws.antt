@@ -1,10 +1,10 @@
 -- A dose from the numbers that were read (read, past), and check 22 for each way through it (oxide-low, oxide-high,
--- weight-low, weight-last).
-use Prim.Native.Nat.{ℕ, _+_, _≤_, _<_}
-use mathlib.Core.Path.{_≡_}
+-- weight-low, weight-last). For callers: its numbers by the book's bytes (oxide-joined, milligrams-joined).
+use Prim.Native.Nat.{ℕ, _+_, _*_, _≤_, _<_}
+use mathlib.Core.Path.{_≡_, refl}
 use mathlib.Core.List.{List}
 use mathlib.Core.Bool.{false}
-use lib.ListN.{length}
+use lib.ListN.{length, getD}
 use lib.Dec.{leb}
 use native.Mathlib.Omega.{arith}
 use borrow.Author.Tests.{le-leb, lt-leb}
@@ -20,6 +20,17 @@ read b at p q = rw (p, q)
 pub past : (b : List ℕ) (at : ℕ) → length b ≤ at
     → _≡_ {A = Dose} (record { oxide = record { 0 = 0 }; milligrams = record { 0 = 0 } }) (doseAt b at)
 past b at h = read b at (be16-past b (at + oxidePlace) (omega arith)) (be32-past b (at + milligramsPlace) (omega arith))
+
+pub oxide-joined : (b : List ℕ) (at : ℕ)
+    → doseAt b at .oxide .0 ≡ getD b (at + oxidePlace) 0 * 256 + getD b (at + oxidePlace + 1) 0
+unfolding be16At
+oxide-joined b at = refl
+
+pub milligrams-joined : (b : List ℕ) (at : ℕ)
+    → doseAt b at .milligrams .0 ≡ getD b (at + milligramsPlace) 0 * 16777216 + getD b (at + milligramsPlace + 1) 0 * 65536
+    + getD b (at + milligramsPlace + 2) 0 * 256 + getD b (at + milligramsPlace + 3) 0
+unfolding be32At
+milligrams-joined b at = refl
 
 module _ (dose : Dose) where
   pub oxide-low : dose .oxide .0 < 1 → false ≡ doseLawful dose

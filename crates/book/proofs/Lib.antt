@@ -2,6 +2,7 @@ pub mod PlaceLaws
 pub mod KindLaws
 pub mod DoseLaws
 pub mod RecordsLaws
+pub mod BareLaws
 pub mod WeighLaws
 pub mod PassLaws
 pub mod RowLaws

@@ -14,7 +14,7 @@ use Rattle.format.specs.Verdicts.{both, check}
 use Rattle.format.proofs.VerdictLaws.{both-pass, both-fail}
 use Rattle.book.specs.declared.dose.Dose.{Dose}
 use Rattle.book.specs.declared.Weighed.the-variants.{Doses, Unsound}
-use Rattle.book.specs.Kinds.{isWeighed, bodySize, isBare, isKnown}
+use Rattle.book.specs.Kinds.{isWeighed, bodySize, isKnown}
 use Rattle.book.specs.Book.{kindAt, recordEnd, placesFrom, doseAt, bodyFits, doseLawful, recordCheck, recordsCheck}
 use Rattle.book.specs.Doses.{dosesOf, sumOf, weighedAs}
 use Rattle.book.proofs.PlaceLaws.{first, none}
@@ -161,33 +161,3 @@ module _ (edition : ℕ) (b : List ℕ) (at : ℕ) (l : at < length b) {end : �
         weighed-turn z =
             turn (isKnown edition) b at l {v = Pass}
             (rw (sym h ∙ t, sym g ∙ not-false k n, fits m, lawful ∙ not-false o z)) inv e refl
-
--- a remark without a body
-bare-parts : (kind : ℕ) → isBare kind ≡ true → (isWeighed kind ≡ false) × (bodySize kind ≡ 0)
-bare-parts kind h = go (isWeighed kind) refl h
-  where
-    go : (w : Bool) → isWeighed kind ≡ w → cond w false (eqb (bodySize kind) 0) ≡ true → (isWeighed kind ≡ false) × (bodySize kind ≡ 0)
-    go true e t = let z : _≡_ {A = ℕ} 0 1 = cc in absurd (omega arith)
-    go false e t = (e, eqb-true (bodySize kind) 0 t)
-
-module _ (b : List ℕ) (at : ℕ) (l : at < length b) {r : Bool} (h : r ≡ isBare (kindAt b at)) (t : r ≡ true) where
-  bare-end : at + 1 ≡ recordEnd b at
-  bare-end = let k = bare-parts (kindAt b at) (sym h ∙ t) .1 in omega arith
-
-  pub bare-turn : (edition : ℕ) {x : Verdict} → x ≡ recordsCheck (isKnown edition) b (placesFrom b (length b - at) at)
-      → x ≡ recordsCheck (isKnown edition) b (placesFrom b (length b - (at + 1)) (at + 1))
-  bare-turn edition inv =
-      remark-turn edition b at l bare-end {w = false} (sym (bare-parts (kindAt b at) (sym h ∙ t) .0)) inv refl (omega arith)
-
-pub bare-skipped : (f : List Dose → ℕ) (b : List ℕ) (at : ℕ) → at < length b → {r : Bool} → r ≡ isBare (kindAt b at) → r ≡ true
-    → (sofar : ℕ) {n : ℕ} → n ≡ sofar + f (dosesOf b (placesFrom b (length b - at) at))
-    → n ≡ sofar + f (dosesOf b (placesFrom b (length b - (at + 1)) (at + 1)))
-bare-skipped f b at l h t sofar inv =
-    skipped f b at l (bare-end b at l h t) {w = false} (sym (bare-parts (kindAt b at) (sym h ∙ t) .0)) refl sofar inv
-
-pub bare-not : (kind : ℕ) {w : Bool} → w ≡ isWeighed kind → w ≡ true → false ≡ isBare kind
-bare-not kind h t = rw (sym h ∙ t)
-
-pub bare-by : (kind : ℕ) {w : Bool} {size : ℕ} → w ≡ isWeighed kind → w ≡ false → size ≡ bodySize kind
-    → eqb size 0 ≡ isBare kind
-bare-by kind h t e = rw (e, sym h ∙ t)

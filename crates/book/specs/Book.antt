@@ -9,7 +9,7 @@ use Rattle.format.specs.declared.verdict.Verdict.{Verdict}
 use Rattle.format.specs.declared.verdict.Verdict.the-variants.{Pass}
 use Rattle.format.specs.Verdicts.{check, both}
 use Rattle.book.specs.declared.dose.Dose.{Dose}
-use Rattle.book.specs.Kinds.{isWeighed, bodySize}
+use Rattle.book.specs.Kinds.{isWeighed, bodySize, isBare}
 
 -- a book is at most 4,096 bytes long, and is held by tag 20001
 abbrev pub bookLimit : ℕ
@@ -32,6 +32,11 @@ placesFrom b (suc n) at = cond (leb (length b) at) [] (at ∷ placesFrom b n (re
 
 abbrev pub places : List ℕ → List ℕ
 places b = placesFrom b (length b) 0
+
+-- the first place from a place on, of n, where no remark without a body stands; right behind them where there is none
+unfoldable pub pastBare : List ℕ → ℕ → ℕ → ℕ
+pastBare b zero at = at
+pastBare b (suc n) at = cond (isBare (kindAt b at)) (pastBare b n (at + 1)) at
 
 -- oxide 2, milligrams 4: every weighed body begins with them; where they stand, from the record's place on
 abbrev pub oxidePlace : ℕ

@@ -1,10 +1,10 @@
 // A book's kinds, records and doses: checks 19 to 22.
 // It knows the book's bytes alone.
 ghost use mathlib.Core.Path.{_≡_};
-ghost use Prim.Native.Nat.{_≤_};
+ghost use Prim.Native.Nat.{_-_, _≤_};
 ghost use lib.ListN.{length};
 ghost use Rattle.book.specs.Kinds.{isWeighed, bodySize, isBare, isKnown};
-ghost use Rattle.book.specs.Book.{bookLimit, places, recordsCheck, lengthCheck};
+ghost use Rattle.book.specs.Book.{bookLimit, places, pastBare, recordsCheck, lengthCheck};
 ghost use Rattle.book.specs.Doses.{doses, sumOf, weighedAs, weighed};
 
 pub mod dose;
@@ -78,6 +78,20 @@ fn is_bare(kind: u8) -> bool
     body_size(kind) == 0
 }
 
+// The first place from a place on where no remark without a body stands; the book's end where there is none.
+fn past_bare(book: &[u8], at: usize) -> usize
+    ensures { λ r. ⌜ r ≡ pastBare (now (book .entry)) (length (now (book .entry)) - at) at ⌝ }
+{
+    let mut i = at;
+    while i < book.len() {
+        if !is_bare(book[i]) {
+            return i;
+        }
+        i += 1;
+    }
+    i
+}
+
 // Checks 20 to 22 for each record in turn, with the number and the sum of the doses.
 fn records(edition: u32, book: &[u8]) -> Weighed
     requires { ⌜ length (now book) ≤ bookLimit ⌝ }
@@ -92,7 +106,7 @@ fn records(edition: u32, book: &[u8]) -> Weighed
         let here = at;
         let kind = book[here];
         if is_bare(kind) {
-            at = here + 1;
+            at = past_bare(book, here + 1);
         } else {
             at = here + 1 + body_size(kind);
             if is_weighed(kind) {

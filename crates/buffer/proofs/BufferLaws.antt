@@ -1,6 +1,6 @@
--- Stores in a buffer (out-of-room, sets-append, sets-past), those of a number and of a dose (two-numbers, four-bytes,
--- eight-bytes), and a walk that stores a book's doses, for each way through it (turn-remark, turn-weighed, done, full).
--- For callers: numbers-room, bytes-room, at-front.
+-- Stores in a buffer (out-of-room, sets-append, sets-past), those of a number and of a dose (two-numbers, four-stores,
+-- four-bytes, eight-bytes, of-dose), and a walk that stores a book's doses, for each way through it (turn-remark,
+-- turn-weighed, done, full). For callers: numbers-room, bytes-room, at-front. BodyLaws has stores of a book's bytes.
 use Prim.Native.Nat.{ℕ, suc, _+_, _-_, _*_, _/_, _%_, _≤_, _<_}
 use mathlib.Core.Path.{_≡_, refl, sym, _∙_}
 use mathlib.Core.List.{List, [], _∷_, _++_}
@@ -37,19 +37,27 @@ pub two-numbers : (out : List ℕ) (i : ℕ) (dose : Dose) {o₁ o₂ : List ℕ
 unfolding numbersOf
 two-numbers out i dose p q = q ∙ rw (p, add-one)
 
-pub four-bytes : (out : List ℕ) (i n : ℕ) {o₁ o₂ o₃ o₄ : List ℕ} → o₁ ≡ set out i (n / 16777216 % 256)
-    → o₂ ≡ set o₁ (i + 1) (n / 65536 % 256) → o₃ ≡ set o₂ (i + 2) (n / 256 % 256) → o₄ ≡ set o₃ (i + 3) (n % 256)
-    → o₄ ≡ sets out i (bytesOf n)
-four-bytes out i n p q r s =
+pub four-stores : (out : List ℕ) (i a b c d : ℕ) {o₁ o₂ o₃ o₄ : List ℕ} → o₁ ≡ set out i a → o₂ ≡ set o₁ (i + 1) b
+    → o₃ ≡ set o₂ (i + 2) c → o₄ ≡ set o₃ (i + 3) d → o₄ ≡ sets out i (a ∷ b ∷ c ∷ d ∷ [])
+four-stores out i a b c d p q r s =
     let f : i + 2 ≡ suc (suc i) = omega arith in
     let g : i + 3 ≡ suc (suc (suc i)) = omega arith in
     s ∙ rw (r, q, p, g, f, add-one)
+
+pub four-bytes : (out : List ℕ) (i n : ℕ) {o₁ o₂ o₃ o₄ : List ℕ} → o₁ ≡ set out i (n / 16777216 % 256)
+    → o₂ ≡ set o₁ (i + 1) (n / 65536 % 256) → o₃ ≡ set o₂ (i + 2) (n / 256 % 256) → o₄ ≡ set o₃ (i + 3) (n % 256)
+    → o₄ ≡ sets out i (bytesOf n)
+four-bytes out i n p q r s = four-stores out i _ _ _ _ p q r s
 
 pub eight-bytes : (out : List ℕ) (i : ℕ) (dose : Dose) {o₁ o₂ : List ℕ} → o₁ ≡ sets out i (bytesOf (dose .oxide .0))
     → o₂ ≡ sets o₁ (i + bytesPerNumber) (bytesOf (dose .milligrams .0)) → o₂ ≡ sets out i (numberBytes (numbersOf (dose ∷ [])))
 unfolding numbersOf numberBytes
 eight-bytes out i dose p q =
     q ∙ rw p (sym (sets-append out i (bytesOf (dose .oxide .0)) (bytesOf (dose .milligrams .0))))
+
+pub of-dose : (spell : List Dose → List ℕ) (b out : List ℕ) (at i : ℕ) {dose : Dose} {after : List ℕ}
+    → dose ≡ doseAt b at → after ≡ sets out i (spell (dose ∷ [])) → after ≡ sets out i (spell (doseAt b at ∷ []))
+of-dose spell b out at i d g = g ∙ rw d
 
 -- doses spelled as numbers, and as bytes: none, and one more
 pub numbers-none : numbersOf [] ≡ []
@@ -83,13 +91,13 @@ module _ (spell : List Dose → List ℕ) where
   pub turn-weighed : (width : ℕ)
       → ((out : List ℕ) (i : ℕ) (dose : Dose) (rest : List Dose)
       → sets out i (spell (dose ∷ rest)) ≡ sets (sets out i (spell (dose ∷ []))) (i + width) (spell rest))
-      → (b out : List ℕ) (at i : ℕ) {size : ℕ} {w : Bool} {dose : Dose} {v after : List ℕ} → at < length b
+      → (b out : List ℕ) (at i : ℕ) {size : ℕ} {w : Bool} {v after : List ℕ} → at < length b
       → v ≡ sets out i (spell (dosesOf b (placesFrom b (length b - at) at)))
-      → size ≡ bodySize (kindAt b at) → w ≡ isWeighed (kindAt b at) → w ≡ true → dose ≡ doseAt b at
-      → after ≡ sets out i (spell (dose ∷ []))
+      → size ≡ bodySize (kindAt b at) → w ≡ isWeighed (kindAt b at) → w ≡ true
+      → after ≡ sets out i (spell (doseAt b at ∷ []))
       → v ≡ sets after (i + width) (spell (dosesOf b (placesFrom b (length b - (at + 1 + size)) (at + 1 + size))))
-  turn-weighed width more b out at i {dose = dose} l inv e h k d g =
-      rw g (inv ∙ rw (weighed b at l (end-of b at e) h k d) (more out i dose _))
+  turn-weighed width more b out at i l inv e h k g =
+      rw g (inv ∙ rw (weighed b at l (end-of b at e) h k refl) (more out i (doseAt b at) _))
 
   pub done : (spell [] ≡ []) → (b out : List ℕ) (at i : ℕ) {v : List ℕ}
       → v ≡ sets out i (spell (dosesOf b (placesFrom b (length b - at) at))) → length b ≤ at → out ≡ v

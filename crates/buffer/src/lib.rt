@@ -4,6 +4,7 @@ ghost use Prim.Native.Nat.{_+_, _≤_, _<_, _^_};
 ghost use mathlib.Core.List.{[], _∷_};
 ghost use lib.ListN.{length, set};
 ghost use lib.Seq.{sets};
+ghost use Rattle.book.specs.Book.{doseAt};
 ghost use Rattle.buffer.specs.Buffer.{numbersPerDose, numbersOf, withDoses};
 ghost use Rattle.buffer.specs.Buffer.{bytesPerNumber, bytesPerDose, bytesOf, numberBytes, withDoseBytes};
 use book::Dose;
@@ -62,47 +63,60 @@ fn put_byte(out: &mut [u8], i: usize, b: u8)
     }
 }
 
-// Puts a number's four bytes from a place of the buffer on, which has them.
-fn put_whole(out: &mut [u8], i: usize, n: u32)
-    requires { ⌜ i + bytesPerNumber ≤ length (now out) ⌝ }
-    ensures { λ r. ⌜ now (out .exit) ≡ sets (now (out .entry)) i (bytesOf n) ⌝ }
-{
-    out[i] = (n / 16777216 % 256) as u8;
-    out[i + 1] = (n / 65536 % 256) as u8;
-    out[i + 2] = (n / 256 % 256) as u8;
-    out[i + 3] = (n % 256) as u8;
-}
-
 // Puts a number's four bytes from a place of the buffer on, as far as that has them.
 fn put_number(out: &mut [u8], i: usize, n: u32)
     requires { ⌜ i + bytesPerNumber < 2 ^ 64 ⌝ }
     ensures { λ r. ⌜ now (out .exit) ≡ sets (now (out .entry)) i (bytesOf n) ⌝ }
 {
-    let end = i + NUMBER_BYTES;
-    if end <= out.len() {
-        put_whole(out, i, n);
-        return;
-    }
     put_byte(out, i, (n / 16777216 % 256) as u8);
     put_byte(out, i + 1, (n / 65536 % 256) as u8);
     put_byte(out, i + 2, (n / 256 % 256) as u8);
     put_byte(out, i + 3, (n % 256) as u8);
 }
 
-// Puts a dose's eight bytes from a place of the buffer on, as far as that has them.
-fn put_dose_bytes(out: &mut [u8], i: usize, dose: Dose)
-    requires { ⌜ i + bytesPerDose < 2 ^ 64 ⌝ }
-    ensures { λ r. ⌜ now (out .exit) ≡ sets (now (out .entry)) i (numberBytes (numbersOf (dose ∷ []))) ⌝ }
+// Puts the eight bytes of the dose at a place of a book from a place of the buffer on, where book and buffer have them:
+// two zero bytes, and the six that the body of its record begins with. All six are read before any is stored, so that
+// the compiler moves them together.
+fn put_body(out: &mut [u8], i: usize, book: &[u8], at: usize)
+    requires { ⌜ (i + bytesPerDose ≤ length (now out)) × (at + 7 ≤ length (now book)) ⌝ }
+    ensures { λ r. ⌜ now (out .exit)
+        ≡ sets (now (out .entry)) i (numberBytes (numbersOf (doseAt (now (book .entry)) at ∷ []))) ⌝ }
 {
-    let second = i + NUMBER_BYTES;
+    let a = book[at + 1];
+    let b = book[at + 2];
+    let c = book[at + 3];
+    let d = book[at + 4];
+    let e = book[at + 5];
+    let f = book[at + 6];
+    out[i] = 0;
+    out[i + 1] = 0;
+    out[i + 2] = a;
+    out[i + 3] = b;
+    out[i + 4] = c;
+    out[i + 5] = d;
+    out[i + 6] = e;
+    out[i + 7] = f;
+}
+
+// Puts the eight bytes of the dose at a place of a book from a place of the buffer on, as far as that has them.
+fn put_dose_bytes(out: &mut [u8], i: usize, book: &[u8], at: usize)
+    requires { ⌜ i + bytesPerDose < 2 ^ 64 ⌝ }
+    ensures { λ r. ⌜ now (out .exit)
+        ≡ sets (now (out .entry)) i (numberBytes (numbersOf (doseAt (now (book .entry)) at ∷ []))) ⌝ }
+{
     let end = i + Dose::BYTES;
+    let len = book.len();
     if end <= out.len() {
-        put_whole(out, i, dose.oxide.0 as u32);
-        put_whole(out, second, dose.milligrams.0);
-        return;
+        if 7 <= len {
+            if at <= len - 7 {
+                put_body(out, i, book, at);
+                return;
+            }
+        }
     }
+    let dose = Dose::at(book, at);
     put_number(out, i, dose.oxide.0 as u32);
-    put_number(out, second, dose.milligrams.0);
+    put_number(out, i + NUMBER_BYTES, dose.milligrams.0);
 }
 
 // Writes a book's doses at the front of a buffer of bytes, four to a number, big-endian, as far as they fit.
@@ -119,7 +133,7 @@ pub fn write_bytes(book: &[u8], out: &mut [u8])
         let kind = book[here];
         at = here + 1 + body_size(kind);
         if is_weighed(kind) {
-            put_dose_bytes(out, i, Dose::at(book, here));
+            put_dose_bytes(out, i, book, here);
             i += Dose::BYTES;
         }
     }

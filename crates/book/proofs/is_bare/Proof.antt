@@ -1,5 +1,5 @@
 -- By whether the kind is weighed. Assumes nothing.
-use Rattle.book.proofs.RecordsLaws as laws
+use Rattle.book.proofs.BareLaws as laws
 use borrow.Author.Needs.{needs}
 use Rattle.book.proofs.is_bare.Statement.{statement}
 use Rattle.book.proofs.is_bare.Tie as tie

@@ -3,11 +3,13 @@
 use Prim.Native.Nat.{_+_, _-_, _*_, _≤_}
 use mathlib.Core.Path.{_≡_}
 use lib.ListN.{length}
+use native.Mathlib.Omega.{arith}
 use native.Mathlib.Nat.{sub-zero, zero-add}
 use Rattle.book.specs.Kinds.{isKnown}
 use Rattle.book.specs.Book.{placesFrom, places, recordsCheck}
 use Rattle.book.specs.Doses.{dosesOf, doses, sumOf}
 use Rattle.book.proofs.PlaceLaws.{end-of}
+use Rattle.book.proofs.BareLaws as bare
 use Rattle.book.proofs.RecordsLaws as laws
 use borrow.Author.Needs.{needs}
 use Rattle.book.proofs.records.Statement.{statement}
@@ -33,23 +35,28 @@ shared-slice-read-kind c = search needs
 is-bare-requires : tie.Need-is-bare-requires Inv-loop μ-loop
 is-bare-requires c κs = search needs
 
-add-at : tie.Need-add-at Inv-loop μ-loop
-add-at c = search needs
+add-past-bare : tie.Need-add-past-bare Inv-loop μ-loop
+add-past-bare c = search needs
+
+past-bare-requires : tie.Need-past-bare-requires Inv-loop μ-loop
+past-bare-requires c κs = search needs
 
 loop-less : tie.Need-loop-less Inv-loop μ-loop
-loop-less c = search needs
+loop-less c = omega (arith, bare.behind _ _ _ (c .past-bare .ensures))
 
 loop-again : tie.Need-loop-again Inv-loop μ-loop
-loop-again c = (search laws.bare-turn, search (laws.bare-skipped length), search (laws.bare-skipped sumOf), search needs, search needs)
+loop-again c =
+    let on = bare.behind _ _ _ (c .past-bare .ensures) in
+    (search bare.turn, search (bare.skipped length), search (bare.skipped sumOf), omega arith, omega arith)
 
-add-at-2 : tie.Need-add-at-2 Inv-loop μ-loop
-add-at-2 c = search needs
+add-at : tie.Need-add-at Inv-loop μ-loop
+add-at c = search needs
 
 body-size-requires : tie.Need-body-size-requires Inv-loop μ-loop
 body-size-requires c κs = search needs
 
-add-at-3 : tie.Need-add-at-3 Inv-loop μ-loop
-add-at-3 c = search needs
+add-at-2 : tie.Need-add-at-2 Inv-loop μ-loop
+add-at-2 c = search needs
 
 is-weighed-requires : tie.Need-is-weighed-requires Inv-loop μ-loop
 is-weighed-requires c κs = search needs
@@ -57,14 +64,14 @@ is-weighed-requires c κs = search needs
 known-requires : tie.Need-known-requires Inv-loop μ-loop
 known-requires c κs = search needs
 
-cast-t19 : tie.Need-cast-t19 Inv-loop μ-loop
-cast-t19 c = search needs
+cast-t20 : tie.Need-cast-t20 Inv-loop μ-loop
+cast-t20 c = search needs
 
 returns : tie.Need-returns Inv-loop μ-loop
 returns c = search (laws.unknown, end-of)
 
-cast-t20 : tie.Need-cast-t20 Inv-loop μ-loop
-cast-t20 c = search needs
+cast-t21 : tie.Need-cast-t21 Inv-loop μ-loop
+cast-t21 c = search needs
 
 returns-2 : tie.Need-returns-2 Inv-loop μ-loop
 returns-2 c =
@@ -84,8 +91,8 @@ within-requires c κs = search (laws.within-book, end-of)
 lawful-requires : tie.Need-lawful-requires Inv-loop μ-loop
 lawful-requires c κs = search needs
 
-cast-t21 : tie.Need-cast-t21 Inv-loop μ-loop
-cast-t21 c = search needs
+cast-t22 : tie.Need-cast-t22 Inv-loop μ-loop
+cast-t22 c = search needs
 
 returns-3 : tie.Need-returns-3 Inv-loop μ-loop
 returns-3 c =
@@ -117,8 +124,8 @@ loop-less-2 c = search needs
 loop-again-2 : tie.Need-loop-again-2 Inv-loop μ-loop
 loop-again-2 c = (search (laws.weighed-turn, end-of), search (laws.counted, end-of), search (laws.summed, end-of), search needs, search needs)
 
-cast-t24 : tie.Need-cast-t24 Inv-loop μ-loop
-cast-t24 c = search needs
+cast-t25 : tie.Need-cast-t25 Inv-loop μ-loop
+cast-t25 c = search needs
 
 returns-4 : tie.Need-returns-4 Inv-loop μ-loop
 returns-4 c = search (laws.remark-past, end-of)
@@ -141,28 +148,29 @@ records-spec =
     loop-holds
     shared-slice-read-kind
     is-bare-requires
-    add-at
+    add-past-bare
+    past-bare-requires
     loop-less
     loop-again
-    add-at-2
+    add-at
     body-size-requires
-    add-at-3
+    add-at-2
     is-weighed-requires
     known-requires
-    cast-t19
-    returns
     cast-t20
+    returns
+    cast-t21
     returns-2
     within-requires
     lawful-requires
-    cast-t21
+    cast-t22
     returns-3
     cast-sum
     add-sum
     add-count
     loop-less-2
     loop-again-2
-    cast-t24
+    cast-t25
     returns-4
     loop-less-3
     loop-again-3

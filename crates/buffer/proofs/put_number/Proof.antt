@@ -1,21 +1,8 @@
--- The four stores, one behind the other; at once where the buffer has all four bytes.
--- Assumes nothing.
+-- The four stores, one behind the other. Assumes nothing.
 use Rattle.buffer.proofs.BufferLaws as laws
 use borrow.Author.Needs.{needs}
 use Rattle.buffer.proofs.put_number.Statement.{statement}
 use Rattle.buffer.proofs.put_number.Tie as tie
-
-add-end : tie.Need-add-end
-add-end c = search needs
-
-put-whole-requires : tie.Need-put-whole-requires
-put-whole-requires c κs = search needs
-
-same-length : tie.Need-same-length
-same-length c = search needs
-
-returns : tie.Need-returns
-returns c = search needs
 
 cast-put-byte : tie.Need-cast-put-byte
 cast-put-byte c = search needs
@@ -50,16 +37,16 @@ cast-put-byte-4 c = search needs
 put-byte-requires-4 : tie.Need-put-byte-requires-4
 put-byte-requires-4 c κs = search needs
 
-same-length-2 : tie.Need-same-length-2
-same-length-2 c = search needs
+same-length : tie.Need-same-length
+same-length c = search needs
 
-returns-2 : tie.Need-returns-2
-returns-2 c =
+returns : tie.Need-returns
+returns c =
     let fourth = c .before .before in
     let third = fourth .before .before .before .before in
     let second = third .before .before .before .before in
     let first = second .before .before .before .before in
-    let start = first .before .before .before .before .args in
+    let start = first .before .before .before .args in
     laws.four-bytes
     (start .out .now)
     (start .i)
@@ -73,10 +60,6 @@ pub put-number-spec : {M : Type 1} → statement M
 put-number-spec =
     tie.close
     (tie.spec
-    add-end
-    put-whole-requires
-    same-length
-    returns
     cast-put-byte
     put-byte-requires
     add-put-byte
@@ -88,5 +71,5 @@ put-number-spec =
     add-put-byte-3
     cast-put-byte-4
     put-byte-requires-4
-    same-length-2
-    returns-2)
+    same-length
+    returns)

@@ -59,7 +59,8 @@ loop-less : tie.Need-loop-less Inv-loop μ-loop
 loop-less c = search needs
 
 loop-again : tie.Need-loop-again Inv-loop μ-loop
-loop-again c = (search (laws.turn-weighed numbersOf numbersPerDose laws.numbers-more), search needs)
+loop-again c =
+    (search (laws.turn-weighed numbersOf numbersPerDose laws.numbers-more, laws.of-dose numbersOf), search needs)
 
 loop-less-2 : tie.Need-loop-less-2 Inv-loop μ-loop
 loop-less-2 c = search needs

@@ -48,9 +48,6 @@ add-at-2 c = search needs
 is-weighed-requires : tie.Need-is-weighed-requires Inv-loop μ-loop
 is-weighed-requires c κs = search needs
 
-at-requires : tie.Need-at-requires Inv-loop μ-loop
-at-requires c κs = search needs
-
 put-dose-bytes-requires : tie.Need-put-dose-bytes-requires Inv-loop μ-loop
 put-dose-bytes-requires c κs = search needs
 
@@ -90,7 +87,6 @@ write-bytes-spec =
     body-size-requires
     add-at-2
     is-weighed-requires
-    at-requires
     put-dose-bytes-requires
     add-i
     loop-less
