@@ -101,8 +101,12 @@ impl Case {
         u64::from(librpm::open(black_box(&self.package[..])))
     }
 
-    /// Who is measured: librpm where it is linked, for readings, if it takes the package.
+    /// Who is measured: librpm where it is linked, for readings, if it takes the package. A check by itself is
+    /// measured in the library alone.
     pub fn sides(&self) -> Vec<Side> {
+        if self.group.starts_with("check") {
+            return vec![Side::Library];
+        }
         let mut sides = ANSWERING.to_vec();
         if self.is_reading() && librpm::open(&self.package) {
             sides.push(Side::Librpm);
@@ -283,6 +287,38 @@ pub fn growth() -> Vec<Case> {
         for records in [48, 64, 128, 192, 256, 320, 384, 448, 512] {
             let package = accepted(records, order, &USUAL);
             cases.push(read(group, records.to_string(), package));
+        }
+    }
+    cases
+}
+
+/// The header records of the table of instructions for each record.
+const PER_RECORD: [usize; 4] = [64, 128, 256, 512];
+
+/// For each index record of the header but the first, two readings that end there: by check 12, its data
+/// being behind the store, and by check 13, its tag being that of the first record. Check 13 is not
+/// reached in the one, and in the other has looked at every record before.
+pub fn check_13() -> Vec<Case> {
+    let mut cases = Vec::new();
+    for records in PER_RECORD {
+        let package = accepted(records, Order::Rising, &USUAL);
+        let opened = reference::sound(&package).unwrap();
+        let index = opened.signature.end().next_multiple_of(8) + 16;
+        let tags: Vec<u32> = opened.header.records().map(|record| record.tag).collect();
+        for record in 1..records {
+            let at = index + 16 * record;
+            for (group, check, tag, offset) in [
+                ("check 12", 12, tags[record], u32::MAX),
+                ("check 13", 13, tags[0], 0),
+            ] {
+                let mut changed = package.clone();
+                for (place, number) in [(0, tag), (4, 7), (8, offset), (12, 1)] {
+                    changed[at + place..][..4].copy_from_slice(&number.to_be_bytes());
+                }
+                let case = read(group, format!("{records} {record}"), changed);
+                assert_eq!(case.answer(), check << 32 | at as u64, "{group} {}", case.name);
+                cases.push(case);
+            }
         }
     }
     cases

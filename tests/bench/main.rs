@@ -31,7 +31,10 @@ fn main() {
     match words[..] {
         ["times", data] => times::all(&cases(data, "")),
         ["times", data, part] => times::all(&cases(data, part)),
-        ["counts", data] => counts::all(&cases(data, "")),
+        ["counts", data] => {
+            counts::all(&cases(data, ""));
+            counts::all(&cases::check_13());
+        }
         ["counts", data, part] => counts::all(&cases(data, part)),
         _ => {
             eprintln!("usage: bench times|counts DATA-FOLDER [PART-OF-A-NAME]");

@@ -29,10 +29,8 @@ END = '<!-- end of {} -->'
 Time = collections.namedtuple('Time', 'low middle high')
 Case = collections.namedtuple(
     'Case', 'group name bytes signature records number place library reference ratio librpm librpm_ratio')
-Count = collections.namedtuple('Count', 'library reference librpm check_13')
+Count = collections.namedtuple('Count', 'library reference librpm')
 
-# A function of the library that does check 13 and nothing else, where the compiler keeps one.
-CHECK_13 = re.compile(r'::tag_before$')
 # The header records of the table of instructions per record.
 PER_RECORD = ('64', '128', '256', '512')
 # In the first table: accepted packages of the test data with so many header records, and these.
@@ -60,26 +58,6 @@ def read_times(folder):
     return run, cases
 
 
-def cost_of_calls(text, wanted):
-    """Instructions of the calls into the functions with a wanted name, or None where there are none."""
-    names, caller, callee, inclusive, cost = {}, '', '', False, None
-    for line in text.splitlines():
-        found = re.match(r'(c?fn)=\((\d+)\)(?: (.*))?$', line)
-        if found:
-            name = names.setdefault(found[2], found[3] or '')
-            if found[1] == 'fn':
-                caller = name
-            else:
-                callee = name
-        elif line.startswith('calls='):
-            inclusive = True
-        elif inclusive:
-            inclusive = False
-            if wanted.search(callee) and not wanted.search(caller):
-                cost = (cost or 0) + int(line.split()[-1])
-    return cost
-
-
 def read_counts(folder):
     """A count for each (group, name); none without valgrind."""
     counts = folder / 'counts'
@@ -91,8 +69,7 @@ def read_counts(folder):
         texts = [(counts / f'call.{call + one}').read_text() for one in range(1, int(calls) + 1)]
         call += int(calls)
         sides = [int(re.search(r'^summary: (\d+)$', text, re.M)[1]) for text in texts]
-        librpm = sides[2] if len(sides) > 2 else None
-        all_counts[group, name] = Count(sides[0], sides[1], librpm, cost_of_calls(texts[0], CHECK_13))
+        all_counts[group, name] = Count(*(sides + [None, None])[:3])
     return all_counts
 
 
@@ -227,27 +204,16 @@ def first(folder):
     yield wrapped(said)
 
 
-def pairs(case):
-    """How many pairs of records a structure's tags make, in both structures."""
-    return sum(records * (records - 1) // 2 for records in (case.signature, case.records))
+CHECK_13_SAID = (
+    'For each record, rising tags. What check 13 takes is counted for each record of the header but the first, by two packages'
+    ' that are refused there: by check 13, which finds the tag in the first record and so has looked at all before it, and by'
+    ' check 12, right before check 13. The one less the other is check 13 for that record; the column has the sum.')
 
 
-def check_13(cases, counts):
-    """How check 13's instructions are known, and a function that tells them for a case."""
-    count = lambda case: counts[case.group, case.name]
-    if all(count(case).check_13 is not None for case in cases):
-        return ('Check 13 is what callgrind counts in the library\'s function for it, and in what that calls.',
-                lambda case: count(case).check_13)
-    # Equal steps of records: what is left in the second difference grows with the pairs.
-    last = sorted(cases, key=lambda case: case.records)[-3:]
-    second = count(last[2]).library - 2 * count(last[1]).library + count(last[0]).library
-    each = second / (pairs(last[2]) - 2 * pairs(last[1]) + pairs(last[0]))
-    each = max(each, 0)
-    known = ('The compiler leaves no function of its own for check 13, so its part is worked out. It alone looks at'
-             f' pairs of records: from {last[0].records} over {last[1].records} to {last[2].records} records the count'
-             f' bends by {each:.2f} instructions a pair, which are taken out for every pair of a structure\'s records.'
-             ' What check 13 does once for a record stays in the rest.')
-    return known, lambda case: round(each * pairs(case))
+def check_13(case, counts):
+    """What check 13 takes in the header of a package."""
+    return sum(counts['check 13', f'{case.name} {record}'].library - counts['check 12', f'{case.name} {record}'].library
+               for record in range(1, case.records))
 
 
 def instructions(cases, counts):
@@ -256,9 +222,9 @@ def instructions(cases, counts):
         yield 'Not counted: no valgrind there.'
         return
     rising = [case for case in cases if case.group == 'growth rising']
-    known, part = check_13(rising, counts)
     shown = [case for case in rising if case.name in PER_RECORD]
-    rest = {case.name: counts[case.group, case.name].library - part(case) for case in shown}
+    part = {case.name: check_13(case, counts) for case in shown}
+    rest = {case.name: counts[case.group, case.name].library - part[case.name] for case in shown}
     of = lambda name: counts['reading', f'64 records, {name}'].library
     asked = [
         ('64 records, rising tags, less check 13', rest['64'], 21_000),
@@ -273,11 +239,11 @@ def instructions(cases, counts):
     for case in shown:
         step = (rest[case.name] - rest[before.name]) / (case.records - before.records) if before else None
         count = counts[case.group, case.name]
-        rows.append([case.name, f'{count.library:,}', f'{part(case):,}', f'{rest[case.name]:,}',
+        rows.append([case.name, f'{count.library:,}', f'{part[case.name]:,}', f'{rest[case.name]:,}',
                      f'{rest[case.name] / case.records:.0f}', f'{step:.0f}' if before else '',
                      librpm_count(case, counts)])
         before = case
-    yield wrapped('For each record, rising tags. ' + known)
+    yield wrapped(CHECK_13_SAID)
     yield table(['Records', 'Instructions', 'Check 13', 'The rest', 'The rest, for each record',
                  'For each record more than above', 'librpm'], rows, left=0)
 

@@ -17,11 +17,11 @@ left-from-requires c κs = search needs
 
 returns : tie.Need-returns
 unfolding sizeTagCheck
-returns c = rw (← (c .before .left-from .ensures)) (search (passed, stopped, same-number, other-number))
+returns c = rw (← (c .before .before .get .ensures), ← (c .before .left-from .ensures)) (search (passed, stopped, same-number, other-number))
 
 returns-2 : tie.Need-returns-2
 unfolding sizeTagCheck
-returns-2 c = rw (← (c .before .left-from .ensures)) (search (passed, stopped, same-number, other-number))
+returns-2 c = rw (← (c .before .before .get .ensures), ← (c .before .left-from .ensures)) (search (passed, stopped, same-number, other-number))
 
 pub size-tag-check-spec : {M : Type 1} → statement M
 size-tag-check-spec =
