@@ -295,9 +295,9 @@ pub fn growth() -> Vec<Case> {
 /// The header records of the table of instructions for each record.
 const PER_RECORD: [usize; 4] = [64, 128, 256, 512];
 
-/// For each index record of the header but the first, two readings that end there: by check 12, its data
-/// being behind the store, and by check 13, its tag being that of the first record. Check 13 is not
-/// reached in the one, and in the other has looked at every record before.
+/// For each index record of the header but the first, which gets its tag, two readings that end there: by
+/// check 12, its data being behind the store, and by check 13. Check 13 is not reached in the one, and in
+/// the other has looked at every record before.
 pub fn check_13() -> Vec<Case> {
     let mut cases = Vec::new();
     for records in PER_RECORD {
@@ -307,16 +307,23 @@ pub fn check_13() -> Vec<Case> {
         let tags: Vec<u32> = opened.header.records().map(|record| record.tag).collect();
         for record in 1..records {
             let at = index + 16 * record;
-            for (group, check, tag, offset) in [
-                ("check 12", 12, tags[record], u32::MAX),
-                ("check 13", 13, tags[0], 0),
-            ] {
+            for (group, check, offset) in [("check 12", 12, u32::MAX), ("check 13", 13, 0)] {
                 let mut changed = package.clone();
-                for (place, number) in [(0, tag), (4, 7), (8, offset), (12, 1)] {
-                    changed[at + place..][..4].copy_from_slice(&number.to_be_bytes());
+                for (place, number) in [
+                    (index, tags[record]),
+                    (at + 4, 7),
+                    (at + 8, offset),
+                    (at + 12, 1),
+                ] {
+                    changed[place..][..4].copy_from_slice(&number.to_be_bytes());
                 }
                 let case = read(group, format!("{records} {record}"), changed);
-                assert_eq!(case.answer(), check << 32 | at as u64, "{group} {}", case.name);
+                assert_eq!(
+                    case.answer(),
+                    check << 32 | at as u64,
+                    "{group} {}",
+                    case.name
+                );
                 cases.push(case);
             }
         }

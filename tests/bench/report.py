@@ -205,9 +205,10 @@ def first(folder):
 
 
 CHECK_13_SAID = (
-    'For each record, rising tags. What check 13 takes is counted for each record of the header but the first, by two packages'
-    ' that are refused there: by check 13, which finds the tag in the first record and so has looked at all before it, and by'
-    ' check 12, right before check 13. The one less the other is check 13 for that record; the column has the sum.')
+    'For each record, rising tags. What check 13 takes is counted for each record of the header but the first, which gets its'
+    ' tag, by two packages that are refused there: by check 13, which finds the tag in the first record and so has looked at'
+    ' all before it, and by check 12, right before check 13. The one less the other is check 13 for that record; the column'
+    ' has the sum.')
 
 
 def check_13(case, counts):
