@@ -5,7 +5,7 @@ use mathlib.Core.Path.{_≡_, refl}
 use mathlib.Core.Logic.{_↔_, Iff·rfl}
 use mathlib.Core.List.{List, [], _∷_}
 use mathlib.Core.Bool.{Bool, true, false, and-eq-true-iff}
-use Rattle.format.specs.declared.places.Section.{Section}
+use Rattle.format.specs.declared.section.Section.{Section}
 use Rattle.format.specs.declared.verdict.Verdict.the-variants.{Pass}
 use Rattle.index.specs.Lookup.{taggedIn}
 use Rattle.tags.specs.Tags.{has, countIn}

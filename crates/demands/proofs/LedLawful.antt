@@ -6,7 +6,7 @@ use mathlib.Core.Logic.{_↔_, Iff·rfl, _⊎_, inl, inr, ⊎-map}
 use mathlib.Core.List.{List}
 use mathlib.Core.Bool.{true, _||_}
 use lib.Dec.{eqb}
-use Rattle.format.specs.declared.places.Section.{Section}
+use Rattle.format.specs.declared.section.Section.{Section}
 use Rattle.format.specs.declared.verdict.Verdict.the-variants.{Pass}
 use Rattle.index.specs.Lookup.{taggedIn}
 use Rattle.tags.specs.Tags.{has, countIn}

@@ -7,7 +7,7 @@ use mathlib.Core.Bool.{Bool, true, and-eq-true-iff}
 use native.Mathlib.Omega.{arith}
 use native.Mathlib.Nat.{eq-or-lt-of-le}
 use borrow.Author.Tests.{leb-true, le-leb}
-use Rattle.format.specs.declared.places.Section.{Section}
+use Rattle.format.specs.declared.section.Section.{Section}
 use Rattle.format.specs.declared.records.IndexRecord.{IndexRecord}
 use Rattle.format.specs.declared.verdict.Verdict.the-variants.{Pass}
 use Rattle.index.specs.declared.Tagged.{Tagged}

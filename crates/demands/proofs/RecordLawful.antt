@@ -10,7 +10,7 @@ use native.Mathlib.Nat.{eq-or-lt-of-le}
 use borrow.Author.Tests.{eqb-true, eqb-false, eq-eqb, ne-eqb, leb-true, leb-false, le-leb}
 use Rattle.strings.specs.declared.Ending.the-variants.{Ends, Open}
 use Rattle.strings.specs.Strings.{isEnded}
-use Rattle.format.specs.declared.places.Section.{Section}
+use Rattle.format.specs.declared.section.Section.{Section}
 use Rattle.format.specs.declared.records.IndexRecord.{IndexRecord}
 use Rattle.format.specs.Places.{inFile}
 use Rattle.entries.specs.declared.types.ElementSize.{ElementSize}

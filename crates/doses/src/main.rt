@@ -6,8 +6,8 @@ ghost use Prim.Native.Nat.{_≤_};
 ghost use lib.ListN.{length};
 use book::Dose;
 use format::Answer;
-use format::FileOffset;
 use libc::STDOUT_FILENO;
+use places::FileOffset;
 
 // One byte more than a package may have, so that a longer input is refused.
 const ROOM: usize = FileOffset::LIMIT + 1;

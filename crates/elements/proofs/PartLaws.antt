@@ -14,10 +14,10 @@ use Rattle.strings.specs.declared.Ending.{Ending}
 use Rattle.strings.specs.declared.Ending.the-variants.{Ends, Open}
 use Rattle.strings.specs.Strings.{stringsFrom}
 use Rattle.strings.proofs.StringLaws.{bound}
-use Rattle.format.specs.declared.places.FileOffset.{FileOffset}
+use Rattle.places.specs.declared.FileOffset.{FileOffset}
 use Rattle.format.specs.Sizes.{packageLimit}
-use Rattle.format.specs.Places.{behind}
-use Rattle.format.proofs.PlaceLaws.{near}
+use Rattle.places.specs.Behind.{behind}
+use Rattle.places.proofs.BehindLaws.{near}
 use Rattle.entries.specs.declared.types.ElementSize.{ElementSize}
 use Rattle.entries.specs.declared.types.ElementSize.the-variants.{Bytes, ToZero, Unlawful}
 use Rattle.index.specs.declared.Entry.{Entry}

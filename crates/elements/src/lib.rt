@@ -7,11 +7,11 @@ ghost use Rattle.elements.specs.Elements.{stringPart, elementOf, element
 use entries::ElementSize;
 use entries::types::element_size;
 use format::Answer;
-use format::FileOffset;
 use index::Entry;
 use lookups::Sought;
 use lookups::seek;
 use lookups::shown;
+use places::FileOffset;
 use strings::Ending;
 
 // String `k` of an entry of strings that lies in a package: it starts where the `k` before it end.

@@ -33,7 +33,7 @@ pub fn data_end(s: &[u8], section: Section, e: IndexRecord) -> Ending
     ensures { λ r. ⌜ r ≡ dataEnd (now (s .entry)) section e ⌝ }
 {
     let size = element_size(e.ty);
-    let from = e.offset.in_file(section);
+    let from = section.in_file(e.offset);
     match size {
         ElementSize::Bytes(n) => {
             let bytes = n * e.count as usize;
@@ -79,7 +79,7 @@ fn strings_check(s: &[u8], section: Section, place: u32, e: IndexRecord) -> Verd
     if !count_right(e) {
         return Verdict::Fail(10, place);
     }
-    let from = e.offset.in_file(section);
+    let from = section.in_file(e.offset);
     let to = section.end();
     let end = from.strings_end(s, to, e.count);
     if !strings::ended(end) {

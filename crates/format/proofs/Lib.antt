@@ -2,5 +2,4 @@ pub mod VerdictLaws
 pub mod RecordLaws
 pub mod LeadLaws
 pub mod NumberLaws
-pub mod PlaceLaws
 pub mod RunLaws

@@ -5,8 +5,8 @@ ghost use lib.ListN.{length};
 ghost use Rattle.be.specs.Numbers.{be32At};
 ghost use Rattle.format.specs.Sizes.{indexRecordSize};
 ghost use Rattle.format.specs.Records.{headerRecordAt, indexRecordAt};
-use crate::places::FileOffset;
-use crate::places::StoreOffset;
+use places::FileOffset;
+use places::StoreOffset;
 
 // The first 16 bytes of a header structure.
 pub struct HeaderRecord {
@@ -33,7 +33,7 @@ impl HeaderRecord {
     pub fn at(pkg: &[u8], place: FileOffset) -> Self
         ensures { λ r. ⌜ r ≡ headerRecordAt (now (pkg .entry)) (place .0) ⌝ }
     {
-        let at = place.0;
+        let at = place.get();
         if pkg.len() <= at {
             return Self {
                 magic: 0,
@@ -74,19 +74,19 @@ impl IndexRecord {
     pub fn at(pkg: &[u8], place: FileOffset) -> Self
         ensures { λ r. ⌜ r ≡ indexRecordAt (now (pkg .entry)) (place .0) ⌝ }
     {
-        let at = place.0;
+        let at = place.get();
         if pkg.len() <= at {
             return Self {
                 tag: 0,
                 ty: 0,
-                offset: StoreOffset(0),
+                offset: StoreOffset::of(0),
                 count: 0,
             };
         }
         Self {
             tag: be::be32(pkg, at + Self::TAG as usize),
             ty: be::be32(pkg, at + Self::TYPE as usize),
-            offset: StoreOffset(be::be32(pkg, at + Self::OFFSET as usize)),
+            offset: StoreOffset::of(be::be32(pkg, at + Self::OFFSET as usize)),
             count: be::be32(pkg, at + Self::COUNT as usize),
         }
     }
@@ -96,11 +96,11 @@ impl IndexRecord {
         requires { ⌜ place .0 + indexRecordSize ≤ length (now pkg) ⌝ }
         ensures { λ r. ⌜ r ≡ indexRecordAt (now (pkg .entry)) (place .0) ⌝ }
     {
-        let at = place.0;
+        let at = place.get();
         Self {
             tag: number_within(pkg, at + Self::TAG as usize),
             ty: number_within(pkg, at + Self::TYPE as usize),
-            offset: StoreOffset(number_within(pkg, at + Self::OFFSET as usize)),
+            offset: StoreOffset::of(number_within(pkg, at + Self::OFFSET as usize)),
             count: number_within(pkg, at + Self::COUNT as usize),
         }
     }

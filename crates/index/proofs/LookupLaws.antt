@@ -10,8 +10,8 @@ use borrow.Author.Tests.{eq-eqb, ne-eqb}
 use Rattle.strings.specs.declared.Ending.{Ending}
 use Rattle.strings.specs.declared.Ending.the-variants.{Ends, Open}
 use Rattle.be.specs.Numbers.{be32At}
-use Rattle.format.specs.declared.places.FileOffset.{FileOffset}
-use Rattle.format.specs.declared.places.Section.{Section}
+use Rattle.places.specs.declared.FileOffset.{FileOffset}
+use Rattle.format.specs.declared.section.Section.{Section}
 use Rattle.format.specs.declared.records.IndexRecord.{IndexRecord}
 use Rattle.format.specs.Places.{recordPlace, inFile}
 use Rattle.format.specs.Records.{indexRecordAt}

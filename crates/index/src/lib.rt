@@ -2,9 +2,9 @@
 ghost use mathlib.Core.Path.{_≡_};
 ghost use Rattle.index.specs.Lookup.{extentTo, entryOf, findIn};
 use entries::data_end;
-use format::FileOffset;
 use format::IndexRecord;
 use format::Section;
+use places::FileOffset;
 use strings::Ending;
 
 // An entry: its type and count, where its data starts in the file, and how many bytes it has.
@@ -42,7 +42,7 @@ pub fn extent_to(from: FileOffset, end: Ending) -> usize
 pub fn entry_of(section: Section, e: IndexRecord, end: Ending) -> Entry
     ensures { λ r. ⌜ r ≡ entryOf section e end ⌝ }
 {
-    let at = e.offset.in_file(section);
+    let at = section.in_file(e.offset);
     let extent = extent_to(at, end);
     Entry {
         ty: e.ty,

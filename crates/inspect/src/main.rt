@@ -4,7 +4,7 @@
 mod request;
 mod show;
 
-use format::FileOffset;
+use places::FileOffset;
 use request::Request;
 
 // One byte more than a package may have, so that a longer input is refused.

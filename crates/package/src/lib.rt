@@ -6,11 +6,11 @@ ghost use Rattle.format.specs.Sizes.{packageLimit};
 ghost use Rattle.format.specs.Places.{sectionEnd};
 ghost use Rattle.package.specs.Lead.{leadCheck};
 ghost use Rattle.package.specs.Package.{sizeCheck, headerStart, structuresOpened, opened, sectionFor};
-use format::FileOffset;
 use format::Lead;
 use format::Section;
-use format::Start;
 use format::Verdict;
+use places::FileOffset;
+use places::Start;
 use structure::Checked;
 
 // A package that passed checks 2 to 13, by its signature and its header, or the first check that failed and its place.

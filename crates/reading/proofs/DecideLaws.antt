@@ -5,7 +5,7 @@ use mathlib.Core.List.{List, [], _∷_}
 use lib.ListN.{length}
 use native.Mathlib.Omega.{arith}
 use Rattle.format.specs.Sizes.{packageLimit}
-use Rattle.format.specs.declared.places.Section.{Section}
+use Rattle.format.specs.declared.section.Section.{Section}
 use Rattle.format.specs.declared.verdict.Verdict.{Verdict}
 use Rattle.format.specs.declared.verdict.Verdict.the-variants.{Pass, Fail}
 use Rattle.format.specs.declared.verdict.Answer.the-variants as answer

@@ -10,7 +10,7 @@ use native.Mathlib.Omega.{arith}
 use native.Mathlib.Nat.{add-zero}
 use borrow.Author.Tests.{eq-eqb, ne-eqb, eqb-false}
 use Rattle.be.specs.Numbers.{be32At}
-use Rattle.format.specs.declared.places.Section.{Section}
+use Rattle.format.specs.declared.section.Section.{Section}
 use Rattle.format.specs.Places.{recordPlace}
 use Rattle.repeats.specs.Repeats.{lowAmong, tagAmong, tagBefore}
 

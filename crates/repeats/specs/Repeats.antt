@@ -5,7 +5,7 @@ use mathlib.Core.Bool.{Bool, false, _||_}
 use lib.ListN.{getD}
 use lib.Dec.{eqb}
 use Rattle.be.specs.Numbers.{be32At}
-use Rattle.format.specs.declared.places.Section.{Section}
+use Rattle.format.specs.declared.section.Section.{Section}
 use Rattle.format.specs.Places.{recordPlace}
 
 -- one of n records from a place on has a tag

@@ -6,9 +6,9 @@ ghost use lib.Dec.{eqb};
 ghost use Rattle.be.specs.Numbers.{be32At};
 ghost use Rattle.format.specs.Places.{recordPlace};
 ghost use Rattle.repeats.specs.Repeats.{lowAmong, tagAmong, tagBefore};
-use format::FileOffset;
 use format::IndexRecord;
 use format::Section;
+use places::FileOffset;
 
 // Whether the record `n` bytes behind a place has the tag, whose last byte is `low`. Most tags differ in it.
 fn tag_is(s: &[u8], place: FileOffset, n: usize, low: u8, tag: u32) -> bool

@@ -11,11 +11,11 @@ use Rattle.strings.specs.declared.Ending.the-variants.{Ends}
 use Rattle.be.specs.Bytes.{sameBytes}
 use Rattle.strings.specs.Strings.{stringsFrom}
 use Rattle.strings.proofs.StringLaws.{bound, positive, split}
-use Rattle.format.specs.declared.places.Section.{Section}
+use Rattle.format.specs.declared.section.Section.{Section}
 use Rattle.format.specs.declared.verdict.Verdict.the-variants.{Pass}
 use Rattle.format.specs.Sizes.{packageLimit}
-use Rattle.format.specs.Places.{behind}
-use Rattle.format.proofs.PlaceLaws.{near}
+use Rattle.places.specs.Behind.{behind}
+use Rattle.places.proofs.BehindLaws.{near}
 use Rattle.entries.specs.declared.types.ElementSize.the-variants.{ToZero}
 use Rattle.index.specs.declared.Entry.{Entry}
 use Rattle.index.specs.declared.Found.{Found}

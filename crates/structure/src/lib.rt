@@ -8,8 +8,8 @@ ghost use Rattle.structure.specs.Checked.{structureChecked};
 use entries::entry_check;
 use format::HeaderRecord;
 use format::Section;
-use format::Start;
 use format::Verdict;
+use places::Start;
 
 // A structure that passed its checks, or the first check that failed and its place.
 pub enum Checked {

@@ -10,7 +10,7 @@ use native.Mathlib.Omega.{arith}
 use native.Mathlib.Nat.{add-zero}
 use borrow.Author.Tests.{eq-eqb, ne-eqb, lt-ltb, le-ltb}
 use Rattle.be.specs.Numbers.{be32At}
-use Rattle.format.specs.declared.places.StoreOffset.{StoreOffset}
+use Rattle.places.specs.declared.StoreOffset.{StoreOffset}
 use Rattle.format.specs.Records.{indexRecordAt}
 use Rattle.index.specs.declared.Tagged.{Tagged}
 use Rattle.index.specs.declared.Tagged.the-variants.{Present, Absent}

@@ -5,8 +5,8 @@ ghost use Rattle.tags.specs.Tags.{has, countIn, numberIn};
 ghost use Rattle.tags.specs.Tables.{slotOf, shownBy, noted, gathered};
 use format::IndexRecord;
 use format::Section;
-use format::StoreOffset;
 use index::Tagged;
+use places::StoreOffset;
 
 // A table of records: a slot for each tag of the catalogue.
 pub struct Table {}
@@ -145,7 +145,7 @@ pub fn number(pkg: &[u8], section: Section, table: &[u32; Table::NUMBERS], tag: 
     let found = look(table, tag);
     match found {
         Tagged::Present(e) => {
-            let at = e.offset.in_file(section);
+            let at = section.in_file(e.offset);
             at.number(pkg)
         }
         Tagged::Absent => 0,

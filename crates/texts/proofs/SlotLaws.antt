@@ -2,7 +2,7 @@
 use Prim.Native.Nat.{ℕ}
 use mathlib.Core.Path.{_≡_, refl}
 use mathlib.Core.List.{List}
-use Rattle.format.specs.declared.places.Section.{Section}
+use Rattle.format.specs.declared.section.Section.{Section}
 use Rattle.tags.specs.Tags.{Look}
 use Rattle.tags.specs.Tables.{slotOf, withSlots}
 use Rattle.texts.specs.Texts.{textsCheck}

@@ -14,7 +14,7 @@ use Rattle.strings.specs.declared.Ending.the-variants.{Ends, Open}
 use Rattle.be.specs.Numbers.{be32At}
 use Rattle.strings.specs.Strings.{stringsFrom}
 use Rattle.strings.proofs.StringLaws.{bound}
-use Rattle.format.specs.declared.places.Section.{Section}
+use Rattle.format.specs.declared.section.Section.{Section}
 use Rattle.format.specs.declared.records.IndexRecord.{IndexRecord}
 use Rattle.format.specs.Places.{inFile, sectionEnd}
 use Rattle.entries.specs.declared.types.ElementSize.{ElementSize}

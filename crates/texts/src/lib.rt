@@ -6,12 +6,12 @@ ghost use Rattle.tags.specs.Tables.{shownBy};
 ghost use Rattle.texts.specs.Texts.{entryIn, textIs, programsCheck, allBelow, indexesBelow};
 ghost use Rattle.texts.specs.Texts.{slashesEnd, directoriesEnd, textsCheck};
 use entries::data_end;
-use format::FileOffset;
 use format::Section;
 use format::Verdict;
 use index::Found;
 use index::Tagged;
 use index::entry_of;
+use places::FileOffset;
 use tags::Table;
 use tags::count;
 use tags::look;
@@ -95,7 +95,7 @@ fn indexes_below(pkg: &[u8], header: Section, tags: &[u32; Table::NUMBERS]) -> b
     let found = look(tags, 1116);
     match found {
         Tagged::Present(e) => {
-            let at = e.offset.in_file(header);
+            let at = header.in_file(e.offset);
             all_below(pkg, limit, e.count, at)
         }
         Tagged::Absent => true,

@@ -7,8 +7,8 @@ use lib.Dec.{eqb}
 use lib.ListN.{length}
 use native.Mathlib.Omega.{arith}
 use borrow.Author.Tests.{lt-ltb, le-ltb}
-use Rattle.format.specs.declared.places.Section.{Section}
-use Rattle.format.specs.declared.places.StoreOffset.{StoreOffset}
+use Rattle.format.specs.declared.section.Section.{Section}
+use Rattle.places.specs.declared.StoreOffset.{StoreOffset}
 use Rattle.format.specs.declared.records.IndexRecord.{IndexRecord}
 use Rattle.format.specs.declared.verdict.Answer.the-variants as answer
 use Rattle.format.specs.declared.verdict.Verdict.the-variants.{Pass}

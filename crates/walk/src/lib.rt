@@ -8,10 +8,10 @@ ghost use Rattle.walk.specs.Walk.{refusedStep, stepIn, stepOf};
 use format::Answer;
 use format::IndexRecord;
 use format::Section;
-use format::StoreOffset;
 use package::Opened;
 use package::open;
 use package::section_for;
+use places::StoreOffset;
 
 // A position in an index: the number of a record.
 pub struct Position {

@@ -5,7 +5,7 @@ use mathlib.Core.Path.{_≡_}
 use borrow.Author.Needs.{needs}
 use Rattle.texts.specs.Texts.{allBelow}
 use native.Mathlib.Omega.{arith}
-use Rattle.format.proofs.PlaceLaws.{near}
+use Rattle.places.proofs.BehindLaws.{near}
 use Rattle.texts.proofs.TextsLaws as laws
 use Rattle.texts.proofs.all_below.Statement.{statement}
 use Rattle.texts.proofs.all_below.Tie as tie

@@ -6,7 +6,7 @@ use mathlib.Core.Path.{_≡_}
 use borrow.Author.Needs.{needs}
 use Rattle.texts.specs.Texts.{slashesEnd}
 use native.Mathlib.Omega.{arith}
-use Rattle.format.proofs.PlaceLaws.{near}
+use Rattle.places.proofs.BehindLaws.{near}
 use Rattle.texts.proofs.TextsLaws as laws
 use Rattle.texts.proofs.slashes_end.Statement.{statement}
 use Rattle.texts.proofs.slashes_end.Tie as tie

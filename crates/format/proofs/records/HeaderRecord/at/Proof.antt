@@ -4,6 +4,9 @@ use borrow.Author.Needs.{needs}
 use Rattle.format.proofs.records.HeaderRecord.at.Statement.{statement}
 use Rattle.format.proofs.records.HeaderRecord.at.Tie as tie
 
+get-requires : tie.Need-get-requires
+get-requires c κs = search needs
+
 returns : tie.Need-returns
 returns c = search laws.header-past
 
@@ -38,6 +41,7 @@ pub at-spec : {M : Type 1} → statement M
 at-spec =
     tie.close
     (tie.spec
+    get-requires
     returns
     add-be32
     be32-requires

@@ -4,6 +4,12 @@ use borrow.Author.Needs.{needs}
 use Rattle.format.proofs.records.IndexRecord.at.Statement.{statement}
 use Rattle.format.proofs.records.IndexRecord.at.Tie as tie
 
+get-requires : tie.Need-get-requires
+get-requires c κs = search needs
+
+of-requires : tie.Need-of-requires
+of-requires c κs = search needs
+
 returns : tie.Need-returns
 returns c = search laws.index-past
 
@@ -34,6 +40,9 @@ add-be32-3 c = search needs
 be32-requires-3 : tie.Need-be32-requires-3
 be32-requires-3 c κs = search needs
 
+of-requires-2 : tie.Need-of-requires-2
+of-requires-2 c κs = search needs
+
 cast-be32-4 : tie.Need-cast-be32-4
 cast-be32-4 c = search needs
 
@@ -50,6 +59,8 @@ pub at-spec : {M : Type 1} → statement M
 at-spec =
     tie.close
     (tie.spec
+    get-requires
+    of-requires
     returns
     cast-be32
     add-be32
@@ -60,6 +71,7 @@ at-spec =
     cast-be32-3
     add-be32-3
     be32-requires-3
+    of-requires-2
     cast-be32-4
     add-be32-4
     be32-requires-4

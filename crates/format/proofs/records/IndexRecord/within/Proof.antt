@@ -4,6 +4,9 @@ use borrow.Author.Needs.{needs}
 use Rattle.format.proofs.records.IndexRecord.within.Statement.{statement}
 use Rattle.format.proofs.records.IndexRecord.within.Tie as tie
 
+get-requires : tie.Need-get-requires
+get-requires c κs = search needs
+
 cast-number-within : tie.Need-cast-number-within
 cast-number-within c = search needs
 
@@ -31,6 +34,9 @@ add-number-within-3 c = search needs
 number-within-requires-3 : tie.Need-number-within-requires-3
 number-within-requires-3 c κs = search needs
 
+of-requires : tie.Need-of-requires
+of-requires c κs = search needs
+
 cast-number-within-4 : tie.Need-cast-number-within-4
 cast-number-within-4 c = search needs
 
@@ -47,6 +53,7 @@ pub within-spec : {M : Type 1} → statement M
 within-spec =
     tie.close
     (tie.spec
+    get-requires
     cast-number-within
     add-number-within
     number-within-requires
@@ -56,6 +63,7 @@ within-spec =
     cast-number-within-3
     add-number-within-3
     number-within-requires-3
+    of-requires
     cast-number-within-4
     add-number-within-4
     number-within-requires-4
