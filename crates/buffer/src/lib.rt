@@ -74,28 +74,33 @@ fn put_number(out: &mut [u8], i: usize, n: u32)
     put_byte(out, i + 3, (n % 256) as u8);
 }
 
+// Puts four bytes from a place of the buffer on, which has them.
+fn put_4(out: &mut [u8], i: usize, a: u8, b: u8, c: u8, d: u8)
+    requires { ⌜ i + bytesPerNumber ≤ length (now out) ⌝ }
+    ensures { λ r. ⌜ now (out .exit) ≡ sets (now (out .entry)) i (a ∷ b ∷ c ∷ d ∷ []) ⌝ }
+{
+    out[i] = a;
+    out[i + 1] = b;
+    out[i + 2] = c;
+    out[i + 3] = d;
+}
+
 // Puts the eight bytes of the dose at a place of a book from a place of the buffer on, where book and buffer have them:
-// two zero bytes, and the six that the body of its record begins with. All six are read before any is stored, so that
-// the compiler moves them together.
+// two zero bytes, and the six that the body of its record begins with.
 fn put_body(out: &mut [u8], i: usize, book: &[u8], at: usize)
     requires { ⌜ (i + bytesPerDose ≤ length (now out)) × (at + 7 ≤ length (now book)) ⌝ }
     ensures { λ r. ⌜ now (out .exit)
         ≡ sets (now (out .entry)) i (numberBytes (numbersOf (doseAt (now (book .entry)) at ∷ []))) ⌝ }
 {
-    let a = book[at + 1];
-    let b = book[at + 2];
-    let c = book[at + 3];
-    let d = book[at + 4];
-    let e = book[at + 5];
-    let f = book[at + 6];
-    out[i] = 0;
-    out[i + 1] = 0;
-    out[i + 2] = a;
-    out[i + 3] = b;
-    out[i + 4] = c;
-    out[i + 5] = d;
-    out[i + 6] = e;
-    out[i + 7] = f;
+    put_4(out, i, 0, 0, book[at + 1], book[at + 2]);
+    put_4(
+        out,
+        i + NUMBER_BYTES,
+        book[at + 3],
+        book[at + 4],
+        book[at + 5],
+        book[at + 6],
+    );
 }
 
 // Puts the eight bytes of the dose at a place of a book from a place of the buffer on, as far as that has them.

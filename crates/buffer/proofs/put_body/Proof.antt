@@ -1,131 +1,82 @@
--- The eight stores, one behind the other. Assumes nothing.
+-- The bytes of both numbers are the body's. Assumes nothing.
 use native.Mathlib.Omega.{arith}
-use lib.ListN.{length-set}
 use Rattle.buffer.proofs.BodyLaws as laws
 use borrow.Author.Needs.{needs}
 use Rattle.buffer.proofs.put_body.Statement.{statement}
 use Rattle.buffer.proofs.put_body.Tie as tie
 
-add-a : tie.Need-add-a
-add-a c = search needs
+add-put-4 : tie.Need-add-put-4
+add-put-4 c = search needs
 
-shared-slice-read-a : tie.Need-shared-slice-read-a
-shared-slice-read-a c = search needs
+shared-slice-read-put-4 : tie.Need-shared-slice-read-put-4
+shared-slice-read-put-4 c = search needs
 
-add-b : tie.Need-add-b
-add-b c = search needs
+add-put-4-2 : tie.Need-add-put-4-2
+add-put-4-2 c = search needs
 
-shared-slice-read-b : tie.Need-shared-slice-read-b
-shared-slice-read-b c = search needs
+shared-slice-read-put-4-2 : tie.Need-shared-slice-read-put-4-2
+shared-slice-read-put-4-2 c = search needs
 
-add-c : tie.Need-add-c
-add-c c = search needs
+put-4-requires : tie.Need-put-4-requires
+put-4-requires c κs = search needs
 
-shared-slice-read-c : tie.Need-shared-slice-read-c
-shared-slice-read-c c = search needs
+add-put-4-3 : tie.Need-add-put-4-3
+add-put-4-3 c = search needs
 
-add-d : tie.Need-add-d
-add-d c = search needs
+add-put-4-4 : tie.Need-add-put-4-4
+add-put-4-4 c = search needs
 
-shared-slice-read-d : tie.Need-shared-slice-read-d
-shared-slice-read-d c = search needs
+shared-slice-read-put-4-3 : tie.Need-shared-slice-read-put-4-3
+shared-slice-read-put-4-3 c = search needs
 
-add-e : tie.Need-add-e
-add-e c = search needs
+add-put-4-5 : tie.Need-add-put-4-5
+add-put-4-5 c = search needs
 
-shared-slice-read-e : tie.Need-shared-slice-read-e
-shared-slice-read-e c = search needs
+shared-slice-read-put-4-4 : tie.Need-shared-slice-read-put-4-4
+shared-slice-read-put-4-4 c = search needs
 
-add-f : tie.Need-add-f
-add-f c = search needs
+add-put-4-6 : tie.Need-add-put-4-6
+add-put-4-6 c = search needs
 
-shared-slice-read-f : tie.Need-shared-slice-read-f
-shared-slice-read-f c = search needs
+shared-slice-read-put-4-5 : tie.Need-shared-slice-read-put-4-5
+shared-slice-read-put-4-5 c = search needs
 
-slice-write-out : tie.Need-slice-write-out
-slice-write-out c = search needs
+add-put-4-7 : tie.Need-add-put-4-7
+add-put-4-7 c = search needs
 
-add-out : tie.Need-add-out
-add-out c = search needs
+shared-slice-read-put-4-6 : tie.Need-shared-slice-read-put-4-6
+shared-slice-read-put-4-6 c = search needs
 
-slice-write-out-2 : tie.Need-slice-write-out-2
-slice-write-out-2 c = simp length-set (omega arith)
-
-add-out-2 : tie.Need-add-out-2
-add-out-2 c = search needs
-
-slice-write-out-3 : tie.Need-slice-write-out-3
-slice-write-out-3 c = simp length-set (omega arith)
-
-add-out-3 : tie.Need-add-out-3
-add-out-3 c = search needs
-
-slice-write-out-4 : tie.Need-slice-write-out-4
-slice-write-out-4 c = simp length-set (omega arith)
-
-add-out-4 : tie.Need-add-out-4
-add-out-4 c = search needs
-
-slice-write-out-5 : tie.Need-slice-write-out-5
-slice-write-out-5 c = simp length-set (omega arith)
-
-add-out-5 : tie.Need-add-out-5
-add-out-5 c = search needs
-
-slice-write-out-6 : tie.Need-slice-write-out-6
-slice-write-out-6 c = simp length-set (omega arith)
-
-add-out-6 : tie.Need-add-out-6
-add-out-6 c = search needs
-
-slice-write-out-7 : tie.Need-slice-write-out-7
-slice-write-out-7 c = simp length-set (omega arith)
-
-add-out-7 : tie.Need-add-out-7
-add-out-7 c = search needs
-
-slice-write-out-8 : tie.Need-slice-write-out-8
-slice-write-out-8 c = simp length-set (omega arith)
+put-4-requires-2 : tie.Need-put-4-requires-2
+put-4-requires-2 c κs = search needs
 
 same-length : tie.Need-same-length
-same-length c = simp length-set
+same-length c = search needs
 
 returns : tie.Need-returns
 returns c =
-    let args = c .before .before .before .before .before .before .args in
-    laws.copied (args .book .now) (λ k. omega (arith, c .shared-slice-known6 .given k))
-    (args .out .now) (args .at) (args .i)
+    let known = c .before .before .before .before .before .before .before .before .before .before .before .before .before .before in
+    let args = known .before .before .args in
+    search (laws.copied (args .book .now) (λ k. omega (arith, known .shared-slice-known .given k)))
 
 pub put-body-spec : {M : Type 1} → statement M
 put-body-spec =
     tie.close
     (tie.spec
-    add-a
-    shared-slice-read-a
-    add-b
-    shared-slice-read-b
-    add-c
-    shared-slice-read-c
-    add-d
-    shared-slice-read-d
-    add-e
-    shared-slice-read-e
-    add-f
-    shared-slice-read-f
-    slice-write-out
-    add-out
-    slice-write-out-2
-    add-out-2
-    slice-write-out-3
-    add-out-3
-    slice-write-out-4
-    add-out-4
-    slice-write-out-5
-    add-out-5
-    slice-write-out-6
-    add-out-6
-    slice-write-out-7
-    add-out-7
-    slice-write-out-8
+    add-put-4
+    shared-slice-read-put-4
+    add-put-4-2
+    shared-slice-read-put-4-2
+    put-4-requires
+    add-put-4-3
+    add-put-4-4
+    shared-slice-read-put-4-3
+    add-put-4-5
+    shared-slice-read-put-4-4
+    add-put-4-6
+    shared-slice-read-put-4-5
+    add-put-4-7
+    shared-slice-read-put-4-6
+    put-4-requires-2
     same-length
     returns)
