@@ -1,7 +1,7 @@
--- Stores in a buffer (out-of-room, sets-append, sets-past), those of a number and of a dose (two-numbers, four-stores,
--- four-bytes, eight-bytes, of-dose), and a walk that stores a book's doses, for each way through it (turn-remark,
--- turn-weighed, done, full). For callers: numbers-room, bytes-room, at-front. BodyLaws has stores of a book's bytes.
-use Prim.Native.Nat.{ℕ, suc, _+_, _-_, _*_, _/_, _%_, _≤_, _<_}
+-- Stores in a buffer (out-of-room, sets-append, sets-past), those of a dose (two-numbers, of-dose), and a walk that stores a
+-- book's doses however they are spelled, for each way through it (turn-remark, turn-weighed, done, full). For callers:
+-- numbers-room, at-front.
+use Prim.Native.Nat.{ℕ, suc, _+_, _-_, _*_, _≤_, _<_}
 use mathlib.Core.Path.{_≡_, refl, sym, _∙_}
 use mathlib.Core.List.{List, [], _∷_, _++_}
 use mathlib.Core.Bool.{Bool, true, false}
@@ -16,7 +16,7 @@ use Rattle.book.specs.Book.{kindAt, placesFrom, doseAt}
 use Rattle.book.specs.Doses.{dosesOf}
 use Rattle.book.proofs.PlaceLaws.{end-of}
 use Rattle.book.proofs.RecordsLaws.{weighed, remark, no-doses}
-use Rattle.buffer.specs.Buffer.{numbersPerDose, numbersOf, bytesPerNumber, bytesPerDose, bytesOf, numberBytes}
+use Rattle.buffer.specs.Buffer.{numbersPerDose, numbersOf}
 
 pub out-of-room : (out : List ℕ) (i n : ℕ) → length out ≤ i → out ≡ set out i n
 out-of-room out i n h = sym (set-out out i n h)
@@ -37,29 +37,11 @@ pub two-numbers : (out : List ℕ) (i : ℕ) (dose : Dose) {o₁ o₂ : List ℕ
 unfolding numbersOf
 two-numbers out i dose p q = q ∙ rw (p, add-one)
 
-pub four-stores : (out : List ℕ) (i a b c d : ℕ) {o₁ o₂ o₃ o₄ : List ℕ} → o₁ ≡ set out i a → o₂ ≡ set o₁ (i + 1) b
-    → o₃ ≡ set o₂ (i + 2) c → o₄ ≡ set o₃ (i + 3) d → o₄ ≡ sets out i (a ∷ b ∷ c ∷ d ∷ [])
-four-stores out i a b c d p q r s =
-    let f : i + 2 ≡ suc (suc i) = omega arith in
-    let g : i + 3 ≡ suc (suc (suc i)) = omega arith in
-    s ∙ rw (r, q, p, g, f, add-one)
-
-pub four-bytes : (out : List ℕ) (i n : ℕ) {o₁ o₂ o₃ o₄ : List ℕ} → o₁ ≡ set out i (n / 16777216 % 256)
-    → o₂ ≡ set o₁ (i + 1) (n / 65536 % 256) → o₃ ≡ set o₂ (i + 2) (n / 256 % 256) → o₄ ≡ set o₃ (i + 3) (n % 256)
-    → o₄ ≡ sets out i (bytesOf n)
-four-bytes out i n p q r s = four-stores out i _ _ _ _ p q r s
-
-pub eight-bytes : (out : List ℕ) (i : ℕ) (dose : Dose) {o₁ o₂ : List ℕ} → o₁ ≡ sets out i (bytesOf (dose .oxide .0))
-    → o₂ ≡ sets o₁ (i + bytesPerNumber) (bytesOf (dose .milligrams .0)) → o₂ ≡ sets out i (numberBytes (numbersOf (dose ∷ [])))
-unfolding numbersOf numberBytes
-eight-bytes out i dose p q =
-    q ∙ rw p (sym (sets-append out i (bytesOf (dose .oxide .0)) (bytesOf (dose .milligrams .0))))
-
 pub of-dose : (spell : List Dose → List ℕ) (b out : List ℕ) (at i : ℕ) {dose : Dose} {after : List ℕ}
     → dose ≡ doseAt b at → after ≡ sets out i (spell (dose ∷ [])) → after ≡ sets out i (spell (doseAt b at ∷ []))
 of-dose spell b out at i d g = g ∙ rw d
 
--- doses spelled as numbers, and as bytes: none, and one more
+-- doses spelled as numbers: none, and one more
 pub numbers-none : numbersOf [] ≡ []
 unfolding numbersOf
 numbers-none = refl
@@ -68,16 +50,6 @@ pub numbers-more : (out : List ℕ) (i : ℕ) (dose : Dose) (rest : List Dose)
     → sets out i (numbersOf (dose ∷ rest)) ≡ sets (sets out i (numbersOf (dose ∷ []))) (i + numbersPerDose) (numbersOf rest)
 unfolding numbersOf
 numbers-more out i dose rest = sets-append out i (numbersOf (dose ∷ [])) (numbersOf rest)
-
-pub bytes-none : numberBytes (numbersOf []) ≡ []
-unfolding numbersOf numberBytes
-bytes-none = refl
-
-pub bytes-more : (out : List ℕ) (i : ℕ) (dose : Dose) (rest : List Dose)
-    → sets out i (numberBytes (numbersOf (dose ∷ rest)))
-    ≡ sets (sets out i (numberBytes (numbersOf (dose ∷ [])))) (i + bytesPerDose) (numberBytes (numbersOf rest))
-unfolding numbersOf numberBytes
-bytes-more out i dose rest = sets-append out i (numberBytes (numbersOf (dose ∷ []))) (numberBytes (numbersOf rest))
 
 -- a turn of a walk that spells the doses in either way: v is what the buffer is to be, and that is what it is now, with
 -- the doses that are left from i on
@@ -111,11 +83,6 @@ pub numbers-room : (ds : List Dose) → length (numbersOf ds) ≡ numbersPerDose
 unfolding numbersOf
 numbers-room [] = refl
 numbers-room (dose ∷ rest) = let k = numbers-room rest in omega arith
-
-pub bytes-room : (ns : List ℕ) → length (numberBytes ns) ≡ bytesPerNumber * length ns
-unfolding numberBytes
-bytes-room [] = refl
-bytes-room (n ∷ rest) = let k = bytes-room rest in omega arith
 
 pub at-front : (out vs : List ℕ) → length vs ≤ length out → sets out 0 vs ≡ vs ++ drop (length vs) out
 at-front out vs h = let e : 0 + length vs ≡ length vs = omega arith in sets-eq vs out 0 (omega arith) ∙ rw e

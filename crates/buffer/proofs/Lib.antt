@@ -1,2 +1,1 @@
 pub mod BufferLaws
-pub mod BodyLaws

@@ -1,20 +1,16 @@
-// A book's doses in a lent buffer, as numbers and as bytes.
+// A book's doses in a lent buffer of numbers.
 ghost use mathlib.Core.Path.{_≡_};
-ghost use Prim.Native.Nat.{_+_, _≤_, _<_, _^_};
+ghost use Prim.Native.Nat.{_+_, _<_, _^_};
 ghost use mathlib.Core.List.{[], _∷_};
-ghost use lib.ListN.{length, set};
+ghost use lib.ListN.{set};
 ghost use lib.Seq.{sets};
-ghost use Rattle.book.specs.Book.{doseAt};
 ghost use Rattle.buffer.specs.Buffer.{numbersPerDose, numbersOf, withDoses};
-ghost use Rattle.buffer.specs.Buffer.{bytesPerNumber, bytesPerDose, bytesOf, numberBytes, withDoseBytes};
 use book::Dose;
 use book::body_size;
 use book::is_weighed;
 
 // How many numbers a dose takes in a buffer of numbers.
 const NUMBERS: usize = Dose::NUMBERS as usize;
-// How many bytes a number takes in a buffer of bytes.
-pub const NUMBER_BYTES: usize = 4;
 
 // Puts a number at a place of the buffer, where that has it.
 fn put(out: &mut [u32], i: usize, n: u32)
@@ -50,96 +46,6 @@ pub fn write(book: &[u8], out: &mut [u32])
         if is_weighed(kind) {
             put_dose(out, i, Dose::at(book, here));
             i += NUMBERS;
-        }
-    }
-}
-
-// Puts a byte at a place of the buffer, where that has it.
-fn put_byte(out: &mut [u8], i: usize, b: u8)
-    ensures { λ r. ⌜ now (out .exit) ≡ set (now (out .entry)) i b ⌝ }
-{
-    if i < out.len() {
-        out[i] = b;
-    }
-}
-
-// Puts a number's four bytes from a place of the buffer on, as far as that has them.
-fn put_number(out: &mut [u8], i: usize, n: u32)
-    requires { ⌜ i + bytesPerNumber < 2 ^ 64 ⌝ }
-    ensures { λ r. ⌜ now (out .exit) ≡ sets (now (out .entry)) i (bytesOf n) ⌝ }
-{
-    put_byte(out, i, (n / 16777216 % 256) as u8);
-    put_byte(out, i + 1, (n / 65536 % 256) as u8);
-    put_byte(out, i + 2, (n / 256 % 256) as u8);
-    put_byte(out, i + 3, (n % 256) as u8);
-}
-
-// Puts four bytes from a place of the buffer on, which has them.
-fn put_4(out: &mut [u8], i: usize, a: u8, b: u8, c: u8, d: u8)
-    requires { ⌜ i + bytesPerNumber ≤ length (now out) ⌝ }
-    ensures { λ r. ⌜ now (out .exit) ≡ sets (now (out .entry)) i (a ∷ b ∷ c ∷ d ∷ []) ⌝ }
-{
-    out[i] = a;
-    out[i + 1] = b;
-    out[i + 2] = c;
-    out[i + 3] = d;
-}
-
-// Puts the eight bytes of the dose at a place of a book from a place of the buffer on, where book and buffer have them:
-// two zero bytes, and the six that the body of its record begins with.
-fn put_body(out: &mut [u8], i: usize, book: &[u8], at: usize)
-    requires { ⌜ (i + bytesPerDose ≤ length (now out)) × (at + 7 ≤ length (now book)) ⌝ }
-    ensures { λ r. ⌜ now (out .exit)
-        ≡ sets (now (out .entry)) i (numberBytes (numbersOf (doseAt (now (book .entry)) at ∷ []))) ⌝ }
-{
-    put_4(out, i, 0, 0, book[at + 1], book[at + 2]);
-    put_4(
-        out,
-        i + NUMBER_BYTES,
-        book[at + 3],
-        book[at + 4],
-        book[at + 5],
-        book[at + 6],
-    );
-}
-
-// Puts the eight bytes of the dose at a place of a book from a place of the buffer on, as far as that has them.
-fn put_dose_bytes(out: &mut [u8], i: usize, book: &[u8], at: usize)
-    requires { ⌜ i + bytesPerDose < 2 ^ 64 ⌝ }
-    ensures { λ r. ⌜ now (out .exit)
-        ≡ sets (now (out .entry)) i (numberBytes (numbersOf (doseAt (now (book .entry)) at ∷ []))) ⌝ }
-{
-    let end = i + Dose::BYTES;
-    let len = book.len();
-    if end <= out.len() {
-        if 7 <= len {
-            if at <= len - 7 {
-                put_body(out, i, book, at);
-                return;
-            }
-        }
-    }
-    let dose = Dose::at(book, at);
-    put_number(out, i, dose.oxide.0 as u32);
-    put_number(out, i + NUMBER_BYTES, dose.milligrams.0);
-}
-
-// Writes a book's doses at the front of a buffer of bytes, four to a number, big-endian, as far as they fit.
-pub fn write_bytes(book: &[u8], out: &mut [u8])
-    ensures { λ r. ⌜ now (out .exit) ≡ withDoseBytes (now (book .entry)) (now (out .entry)) ⌝ }
-{
-    let mut at = 0;
-    let mut i = 0;
-    while at < book.len() {
-        if out.len() <= i {
-            return;
-        }
-        let here = at;
-        let kind = book[here];
-        at = here + 1 + body_size(kind);
-        if is_weighed(kind) {
-            put_dose_bytes(out, i, book, here);
-            i += Dose::BYTES;
         }
     }
 }

@@ -7,7 +7,8 @@ use lib.Seq.{sets, sets-eq}
 use native.Mathlib.Omega.{arith}
 use Rattle.book.specs.Doses.{doses}
 use Rattle.buffer.specs.Buffer.{numbersOf}
-use Rattle.buffer.proofs.BufferLaws.{numbers-room, bytes-room}
+use Rattle.buffer.proofs.BufferLaws.{numbers-room}
+use Rattle.octets.proofs.OctetLaws.{bytes-room}
 use Rattle.reading.specs.Reading.{bookOf, readingCheck}
 use Rattle.reading.specs.Buffers.{Form, Numbers, Bytes, roomIn, cells, put, leftIn}
 use Rattle.demands.specs.Demands.{doseCells, RefusedKeeps, AcceptedWrites}

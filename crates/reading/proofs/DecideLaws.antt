@@ -17,7 +17,8 @@ use Rattle.package.specs.Package.{signatureAt, headerAt, soundCheck, openedAs, 
 use Rattle.package.proofs.OpenLaws.{sound-size}
 use Rattle.book.specs.declared.dose.Dose.{Dose}
 use Rattle.book.specs.Doses.{doses}
-use Rattle.buffer.specs.Buffer.{numbersOf, numberBytes}
+use Rattle.buffer.specs.Buffer.{numbersOf}
+use Rattle.octets.specs.Octets.{numberBytes}
 use Rattle.reading.specs.declared.opened.Weighing.{Weighing}
 use Rattle.reading.specs.declared.opened.Weighing.the-variants.{Doses, Refused}
 use Rattle.reading.specs.Editions.{editionOf}

@@ -6,7 +6,8 @@ use lib.ListN.{length}
 use Rattle.format.specs.declared.verdict.Verdict.{Verdict}
 use Rattle.format.specs.declared.verdict.Verdict.the-variants.{Pass, Fail}
 use Rattle.format.specs.declared.verdict.Answer.{Answer}
-use Rattle.buffer.specs.Buffer.{numberBytes, withDoses, withDoseBytes}
+use Rattle.buffer.specs.Buffer.{withDoses}
+use Rattle.octets.specs.Octets.{numberBytes, withDoseBytes}
 use Rattle.reading.specs.Reading.{bookOf, readingCheck, readAnswer}
 
 -- a refused reading changes nothing; an accepted one puts its doses at the front

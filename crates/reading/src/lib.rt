@@ -84,7 +84,7 @@ pub fn read_bytes(edition: u32, pkg: &[u8], doses: &mut [u8]) -> Answer
             if n == 0 {
                 return Answer::Done(n);
             }
-            buffer::write_bytes(bytes, doses);
+            octets::write_bytes(bytes, doses);
             Answer::Done(n)
         }
     }

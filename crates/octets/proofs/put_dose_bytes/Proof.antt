@@ -1,11 +1,13 @@
 -- From the body where book and buffer have it whole; else the two numbers, one behind the other. Assumes nothing.
 use mathlib.Core.List.{List}
 use Rattle.book.specs.declared.dose.Dose.{Dose}
-use Rattle.buffer.specs.Buffer.{numbersOf, numberBytes}
-use Rattle.buffer.proofs.BufferLaws as laws
+use Rattle.buffer.specs.Buffer.{numbersOf}
+use Rattle.octets.specs.Octets.{numberBytes}
+use Rattle.buffer.proofs.BufferLaws as stores
+use Rattle.octets.proofs.OctetLaws as laws
 use borrow.Author.Needs.{needs}
-use Rattle.buffer.proofs.put_dose_bytes.Statement.{statement}
-use Rattle.buffer.proofs.put_dose_bytes.Tie as tie
+use Rattle.octets.proofs.put_dose_bytes.Statement.{statement}
+use Rattle.octets.proofs.put_dose_bytes.Tie as tie
 
 add-end : tie.Need-add-end
 add-end c = search needs
@@ -38,7 +40,7 @@ same-length-2 : tie.Need-same-length-2
 same-length-2 c = search needs
 
 returns-2 : tie.Need-returns-2
-returns-2 c = search (laws.eight-bytes, laws.of-dose (λ (ds : List Dose). numberBytes (numbersOf ds)))
+returns-2 c = search (laws.eight-bytes, stores.of-dose (λ (ds : List Dose). numberBytes (numbersOf ds)))
 
 pub put-dose-bytes-spec : {M : Type 1} → statement M
 put-dose-bytes-spec =

@@ -8,8 +8,9 @@ use lib.Seq.{sets}
 use native.Mathlib.Omega.{arith}
 use Rattle.book.specs.Book.{doseAt}
 use Rattle.book.proofs.DoseLaws.{oxide-joined, milligrams-joined}
-use Rattle.buffer.specs.Buffer.{numbersOf, bytesPerNumber, bytesOf, numberBytes}
-use Rattle.buffer.proofs.BufferLaws.{eight-bytes}
+use Rattle.buffer.specs.Buffer.{numbersOf}
+use Rattle.octets.specs.Octets.{bytesPerNumber, bytesOf, numberBytes}
+use Rattle.octets.proofs.OctetLaws.{eight-bytes}
 
 oxide-bytes : (a b : ℕ) → a < 256 → b < 256 → bytesOf (a * 256 + b) ≡ 0 ∷ 0 ∷ a ∷ b ∷ []
 oxide-bytes a b p q =

@@ -2,10 +2,10 @@
 use mathlib.Core.Path.{refl}
 use native.Mathlib.Omega.{arith}
 use lib.ListN.{length-set}
-use Rattle.buffer.proofs.BufferLaws as laws
+use Rattle.octets.proofs.OctetLaws as laws
 use borrow.Author.Needs.{needs}
-use Rattle.buffer.proofs.put_4.Statement.{statement}
-use Rattle.buffer.proofs.put_4.Tie as tie
+use Rattle.octets.proofs.put_4.Statement.{statement}
+use Rattle.octets.proofs.put_4.Tie as tie
 
 slice-write-out : tie.Need-slice-write-out
 slice-write-out c = search needs

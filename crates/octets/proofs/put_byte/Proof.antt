@@ -1,9 +1,9 @@
 -- A place at or past the end has nothing to store.
 -- Assumes nothing.
 use Rattle.buffer.proofs.BufferLaws as laws
 use borrow.Author.Needs.{needs}
-use Rattle.buffer.proofs.put_byte.Statement.{statement}
-use Rattle.buffer.proofs.put_byte.Tie as tie
+use Rattle.octets.proofs.put_byte.Statement.{statement}
+use Rattle.octets.proofs.put_byte.Tie as tie
 
 slice-write-out : tie.Need-slice-write-out
 slice-write-out c = search needs

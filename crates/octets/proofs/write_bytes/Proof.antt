@@ -10,10 +10,12 @@ use native.Mathlib.Nat.{sub-zero}
 use Rattle.book.specs.declared.dose.Dose.{Dose}
 use Rattle.book.specs.Book.{placesFrom}
 use Rattle.book.specs.Doses.{dosesOf, doses}
-use Rattle.buffer.specs.Buffer.{numbersOf, bytesPerDose, numberBytes}
-use Rattle.buffer.proofs.BufferLaws as laws
-use Rattle.buffer.proofs.write_bytes.Statement.{statement}
-use Rattle.buffer.proofs.write_bytes.Tie as tie
+use Rattle.buffer.specs.Buffer.{numbersOf}
+use Rattle.octets.specs.Octets.{bytesPerDose, numberBytes}
+use Rattle.buffer.proofs.BufferLaws as walk
+use Rattle.octets.proofs.OctetLaws as laws
+use Rattle.octets.proofs.write_bytes.Statement.{statement}
+use Rattle.octets.proofs.write_bytes.Tie as tie
 
 abbrev Inv-loop : tie.InvT-loop
 Inv-loop book out₀ at₀ i₀ out at i =
@@ -31,7 +33,7 @@ same-length : tie.Need-same-length Inv-loop μ-loop
 same-length c = search needs
 
 returns : tie.Need-returns Inv-loop μ-loop
-returns c = search laws.full
+returns c = search walk.full
 
 shared-slice-read-kind : tie.Need-shared-slice-read-kind Inv-loop μ-loop
 shared-slice-read-kind c = search needs
@@ -59,19 +61,19 @@ loop-less c = search needs
 
 loop-again : tie.Need-loop-again Inv-loop μ-loop
 loop-again c =
-    (search (laws.turn-weighed (λ (ds : List Dose). numberBytes (numbersOf ds)) bytesPerDose laws.bytes-more), search needs)
+    (search (walk.turn-weighed (λ (ds : List Dose). numberBytes (numbersOf ds)) bytesPerDose laws.bytes-more), search needs)
 
 loop-less-2 : tie.Need-loop-less-2 Inv-loop μ-loop
 loop-less-2 c = search needs
 
 loop-again-2 : tie.Need-loop-again-2 Inv-loop μ-loop
-loop-again-2 c = (search (laws.turn-remark (λ (ds : List Dose). numberBytes (numbersOf ds))), search needs)
+loop-again-2 c = (search (walk.turn-remark (λ (ds : List Dose). numberBytes (numbersOf ds))), search needs)
 
 same-length-2 : tie.Need-same-length-2 Inv-loop μ-loop
 same-length-2 c = search needs
 
 returns-2 : tie.Need-returns-2 Inv-loop μ-loop
-returns-2 c = search (laws.done (λ (ds : List Dose). numberBytes (numbersOf ds)) laws.bytes-none)
+returns-2 c = search (walk.done (λ (ds : List Dose). numberBytes (numbersOf ds)) laws.bytes-none)
 
 pub write-bytes-spec : {M : Type 1} → statement M
 write-bytes-spec =

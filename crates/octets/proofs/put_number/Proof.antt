@@ -1,8 +1,8 @@
 -- The four stores, one behind the other. Assumes nothing.
-use Rattle.buffer.proofs.BufferLaws as laws
+use Rattle.octets.proofs.OctetLaws as laws
 use borrow.Author.Needs.{needs}
-use Rattle.buffer.proofs.put_number.Statement.{statement}
-use Rattle.buffer.proofs.put_number.Tie as tie
+use Rattle.octets.proofs.put_number.Statement.{statement}
+use Rattle.octets.proofs.put_number.Tie as tie
 
 cast-put-byte : tie.Need-cast-put-byte
 cast-put-byte c = search needs

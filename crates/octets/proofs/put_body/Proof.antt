@@ -1,9 +1,9 @@
 -- The bytes of both numbers are the body's. Assumes nothing.
 use native.Mathlib.Omega.{arith}
-use Rattle.buffer.proofs.BodyLaws as laws
+use Rattle.octets.proofs.BodyLaws as laws
 use borrow.Author.Needs.{needs}
-use Rattle.buffer.proofs.put_body.Statement.{statement}
-use Rattle.buffer.proofs.put_body.Tie as tie
+use Rattle.octets.proofs.put_body.Statement.{statement}
+use Rattle.octets.proofs.put_body.Tie as tie
 
 add-put-4 : tie.Need-add-put-4
 add-put-4 c = search needs
