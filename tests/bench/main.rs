@@ -31,7 +31,7 @@ fn main() {
     match words[..] {
         ["times", data] => times::all(&cases(data, "")),
         ["times", data, part] => times::all(&cases(data, part)),
-        ["counts", data] => {
+        ["counts", data] | ["counts", data, ""] => {
             counts::all(&cases(data, ""));
             counts::all(&cases::check_13());
         }

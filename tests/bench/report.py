@@ -208,7 +208,8 @@ CHECK_13_SAID = (
     'For each record, rising tags. What check 13 takes is counted for each record of the header but the first, which gets its'
     ' tag, by two packages that are refused there: by check 13, which finds the tag in the first record and so has looked at'
     ' all before it, and by check 12, right before check 13. The one less the other is check 13 for that record; the column'
-    ' has the sum.')
+    ' has the sum. A tag that is found takes a little more than one that is not, 3 to 7 instructions a record when that was'
+    ' looked at (November 2026), and the rest is too low by so much.')
 
 
 def check_13(case, counts):
