@@ -33,20 +33,11 @@ impl HeaderRecord {
     pub fn at(pkg: &[u8], place: FileOffset) -> Self
         ensures { λ r. ⌜ r ≡ headerRecordAt (now (pkg .entry)) (place .0) ⌝ }
     {
-        let at = place.get();
-        if pkg.len() <= at {
-            return Self {
-                magic: 0,
-                reserved: 0,
-                nindex: 0,
-                hsize: 0,
-            };
-        }
         Self {
-            magic: be::be32(pkg, at + Self::MAGIC),
-            reserved: be::be32(pkg, at + Self::RESERVED),
-            nindex: be::be32(pkg, at + Self::NINDEX),
-            hsize: be::be32(pkg, at + Self::HSIZE),
+            magic: place.number_behind(pkg, Self::MAGIC),
+            reserved: place.number_behind(pkg, Self::RESERVED),
+            nindex: place.number_behind(pkg, Self::NINDEX),
+            hsize: place.number_behind(pkg, Self::HSIZE),
         }
     }
 }
@@ -74,20 +65,11 @@ impl IndexRecord {
     pub fn at(pkg: &[u8], place: FileOffset) -> Self
         ensures { λ r. ⌜ r ≡ indexRecordAt (now (pkg .entry)) (place .0) ⌝ }
     {
-        let at = place.get();
-        if pkg.len() <= at {
-            return Self {
-                tag: 0,
-                ty: 0,
-                offset: StoreOffset::of(0),
-                count: 0,
-            };
-        }
         Self {
-            tag: be::be32(pkg, at + Self::TAG as usize),
-            ty: be::be32(pkg, at + Self::TYPE as usize),
-            offset: StoreOffset::of(be::be32(pkg, at + Self::OFFSET as usize)),
-            count: be::be32(pkg, at + Self::COUNT as usize),
+            tag: place.number_behind(pkg, Self::TAG as usize),
+            ty: place.number_behind(pkg, Self::TYPE as usize),
+            offset: StoreOffset::of(place.number_behind(pkg, Self::OFFSET as usize)),
+            count: place.number_behind(pkg, Self::COUNT as usize),
         }
     }
 

@@ -71,13 +71,12 @@ impl Section {
         ensures { λ r. ⌜ r ≡ be32At (now (pkg .entry)) (recordPlace self i + at) ⌝ }
     {
         let record = self.index_record(i);
-        let place = record.behind(at as usize);
         if self.has_record(pkg, n, i) {
             if at <= IndexRecord::COUNT {
-                return number_within(pkg, place.get());
+                return number_within(pkg, record.get() + at as usize);
             }
         }
-        place.number(pkg)
+        record.number_behind(pkg, at as usize)
     }
 
     // Index record `i`, likewise.

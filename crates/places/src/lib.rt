@@ -1,7 +1,7 @@
 // Places in the file and in a store, and what a package has at a place.
 // The fields are shut: outside this crate no place of the file is made from a number.
 ghost use mathlib.Core.Path.{_≡_};
-ghost use Prim.Native.Nat.{_-_};
+ghost use Prim.Native.Nat.{_+_, _-_};
 ghost use lib.ListN.{getD, take, drop};
 ghost use Rattle.be.specs.Numbers.{be32At};
 ghost use Rattle.strings.specs.Strings.{stringsFrom};
@@ -52,6 +52,14 @@ impl FileOffset {
         ensures { λ r. ⌜ r ≡ be32At (now (pkg .entry)) (self .0) ⌝ }
     {
         be::be32(pkg, self.0)
+    }
+
+    // The 32-bit number of a package `n` bytes behind this place.
+    pub fn number_behind(self, pkg: &[u8], n: usize) -> u32
+        ensures { λ r. ⌜ r ≡ be32At (now (pkg .entry)) (self .0 + n) ⌝ }
+    {
+        let place = self.behind(n);
+        place.number(pkg)
     }
 
     // The part of a package of `extent` bytes from this place.

@@ -47,7 +47,7 @@ number-within-requires-4 : tie.Need-number-within-requires-4
 number-within-requires-4 c κs = search needs
 
 returns : tie.Need-returns
-returns c = search laws.index-read
+returns c = search laws.index-read-at
 
 pub within-spec : {M : Type 1} → statement M
 within-spec =

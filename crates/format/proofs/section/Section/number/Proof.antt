@@ -7,14 +7,14 @@ use Rattle.format.proofs.section.Section.number.Tie as tie
 index-record-requires : tie.Need-index-record-requires
 index-record-requires c κs = search needs
 
-behind-requires : tie.Need-behind-requires
-behind-requires c κs = search needs
-
 has-record-requires : tie.Need-has-record-requires
 has-record-requires c κs = search needs
 
 get-requires : tie.Need-get-requires
 get-requires c κs = search needs
+
+add-number-within : tie.Need-add-number-within
+add-number-within c = search needs
 
 number-within-requires : tie.Need-number-within-requires
 number-within-requires c κs = search laws.number-whole
@@ -22,8 +22,8 @@ number-within-requires c κs = search laws.number-whole
 returns : tie.Need-returns
 returns c = search laws.number-read
 
-number-requires : tie.Need-number-requires
-number-requires c κs = search needs
+number-behind-requires : tie.Need-number-behind-requires
+number-behind-requires c κs = search needs
 
 returns-2 : tie.Need-returns-2
 returns-2 c = search laws.number-placed
@@ -33,10 +33,10 @@ number-spec =
     tie.close
     (tie.spec
     index-record-requires
-    behind-requires
     has-record-requires
     get-requires
+    add-number-within
     number-within-requires
     returns
-    number-requires
+    number-behind-requires
     returns-2)
