@@ -126,6 +126,14 @@ module _ (s : List ℕ) where
           let p = next-later k at (eqb-false _ _ t) in
           next-later (k + room) at (eqb-false _ _ t) ∙ f (omega arith)
 
+  -- four bytes, then four: z is the first zero byte of the first four
+  module _ (at : ℕ) {z : ℕ} (q : z ≡ nextZero s 4 at) where
+    pub half-ends : z < at + 4 → z ≡ nextZero s 8 at
+    half-ends h = q ∙ sym (next-in 4 4 at (omega arith))
+
+    pub half-turn : {r : ℕ} → at + 4 ≤ z → r ≡ nextZero s 4 (at + 4) → r ≡ nextZero s 8 at
+    half-turn h p = p ∙ sym (next-behind 4 4 at (omega arith))
+
   -- a turn of eight bytes: v is what the search began with, z the first zero byte of the eight
   module _ (stop i : ℕ) {v z : ℕ} (inv : v ≡ nextZero s (stop - i) i) (q : z ≡ nextZero s 8 i) (m : 8 ≤ stop)
       (l : i ≤ stop - 8) where

@@ -18,10 +18,10 @@ fn stop_before(s: &[u8], end: usize) -> usize
     if s.len() < end { s.len() } else { end }
 }
 
-// The place of the first zero byte of eight; the place behind them where there is none.
-fn zero_of_8(s: &[u8], at: usize) -> usize
-    requires { ⌜ at + 8 ≤ length (now s) ⌝ }
-    ensures { λ r. ⌜ r ≡ nextZero (now (s .entry)) 8 at ⌝ }
+// The place of the first zero byte of four; the place behind them where there is none.
+fn zero_of_4(s: &[u8], at: usize) -> usize
+    requires { ⌜ at + 4 ≤ length (now s) ⌝ }
+    ensures { λ r. ⌜ r ≡ nextZero (now (s .entry)) 4 at ⌝ }
 {
     if s[at] == 0 {
         return at;
@@ -35,19 +35,20 @@ fn zero_of_8(s: &[u8], at: usize) -> usize
     if s[at + 3] == 0 {
         return at + 3;
     }
-    if s[at + 4] == 0 {
-        return at + 4;
+    at + 4
+}
+
+// The same of eight.
+fn zero_of_8(s: &[u8], at: usize) -> usize
+    requires { ⌜ at + 8 ≤ length (now s) ⌝ }
+    ensures { λ r. ⌜ r ≡ nextZero (now (s .entry)) 8 at ⌝ }
+{
+    let half = at + 4;
+    let zero = zero_of_4(s, at);
+    if zero < half {
+        return zero;
     }
-    if s[at + 5] == 0 {
-        return at + 5;
-    }
-    if s[at + 6] == 0 {
-        return at + 6;
-    }
-    if s[at + 7] == 0 {
-        return at + 7;
-    }
-    at + 8
+    zero_of_4(s, half)
 }
 
 // The place of the first zero byte from `at`, before `stop`; `stop` where there is none, or `at` behind it.
