@@ -30,6 +30,10 @@ unfoldable pub oldNamesRight : Look → ℕ → Bool
 oldNamesRight header n =
     eqb (countIn header 1027) n && not (has header 1116) && not (has header 1117) && not (has header 1118)
 
+-- three tags are all present
+unfoldable pub presentCheck : Look → ℕ → ℕ → ℕ → Verdict
+presentCheck look a b c = check (has look a) 17 a (check (has look b) 17 b (check (has look c) 17 c Pass))
+
 -- otherwise those three are present and 1116 and 1117 have count N
 unfoldable pub newNamesCheck : Look → ℕ → Verdict
 newNamesCheck header n =

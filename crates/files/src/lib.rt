@@ -3,7 +3,7 @@
 ghost use mathlib.Core.Path.{_≡_};
 ghost use Prim.Native.Nat.{ℕ};
 ghost use Rattle.tags.specs.Tables.{shownBy};
-ghost use Rattle.files.specs.Files.{countCheck, countsCheck, fileTags, oldNamesRight, newNamesCheck, namesCheck};
+ghost use Rattle.files.specs.Files.{countCheck, countsCheck, fileTags, oldNamesRight, presentCheck, newNamesCheck, namesCheck};
 ghost use Rattle.files.specs.Files.{fileGroups};
 use format::Verdict;
 use tags::Table;
@@ -74,18 +74,29 @@ fn old_names_right(header: &[u32; Table::NUMBERS], n: u32) -> bool
     true
 }
 
+// Three tags are all present.
+pub fn present(tags: &[u32; Table::NUMBERS], a: u32, b: u32, c: u32) -> Verdict
+    ensures { λ r. ⌜ r ≡ presentCheck (shownBy (now (tags .entry))) a b c ⌝ }
+{
+    if !has(tags, a) {
+        return Verdict::Fail(17, a);
+    }
+    if !has(tags, b) {
+        return Verdict::Fail(17, b);
+    }
+    if !has(tags, c) {
+        return Verdict::Fail(17, c);
+    }
+    Verdict::Pass
+}
+
 // The new form of the file names is whole.
 fn new_names(header: &[u32; Table::NUMBERS], n: u32) -> Verdict
     ensures { λ r. ⌜ r ≡ newNamesCheck (shownBy (now (header .entry))) n ⌝ }
 {
-    if !has(header, 1116) {
-        return Verdict::Fail(17, 1116);
-    }
-    if !has(header, 1117) {
-        return Verdict::Fail(17, 1117);
-    }
-    if !has(header, 1118) {
-        return Verdict::Fail(17, 1118);
+    let v = present(header, 1116, 1117, 1118);
+    if let Verdict::Fail(number, place) = v {
+        return Verdict::Fail(number, place);
     }
     if count(header, 1116) != n {
         return Verdict::Fail(17, 1116);

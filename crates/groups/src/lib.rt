@@ -62,14 +62,9 @@ fn script_pairs(header: &[u32; Table::NUMBERS]) -> Verdict
 fn whole(header: &[u32; Table::NUMBERS], n: u32, a: u32, b: u32, c: u32) -> Verdict
     ensures { λ r. ⌜ r ≡ wholeCheck (shownBy (now (header .entry))) n a b c ⌝ }
 {
-    if !has(header, a) {
-        return Verdict::Fail(17, a);
-    }
-    if !has(header, b) {
-        return Verdict::Fail(17, b);
-    }
-    if !has(header, c) {
-        return Verdict::Fail(17, c);
+    let v = files::present(header, a, b, c);
+    if let Verdict::Fail(number, place) = v {
+        return Verdict::Fail(number, place);
     }
     if count(header, a) != n {
         return Verdict::Fail(17, a);

@@ -29,16 +29,16 @@ use Rattle.package.specs.Package.{packageCheck, soundCheck, openedAs, st
 
 -- the signature as it was checked
 module _ (s : List ℕ) (len : ℕ) {first : ℕ} {a : Checked} (e : first ≡ leadSize) (r : a ≡ structureChecked s len first) where
-  p : a ≡ structureChecked s len leadSize
-  p = r ∙ ap (structureChecked s len) e
+  checked-there : a ≡ structureChecked s len leadSize
+  checked-there = r ∙ ap (structureChecked s len) e
 
   pub first-refused : {number place : ℕ} → a ≡ checked.Unsound number place → Unsound number place ≡ structuresOpened s len
   unfolding structuresCheck
-  first-refused h = rw (both-fail _ (checked-unsound _ _ (sym p ∙ h)))
+  first-refused h = rw (both-fail _ (checked-unsound _ _ (sym checked-there ∙ h)))
 
   module _ {signature : Section} (h : a ≡ checked.Sound signature) where
     first-sound : (structureCheck s len leadSize ≡ Pass) × (signatureAt s ≡ signature)
-    first-sound = checked-sound _ _ (sym p ∙ h)
+    first-sound = checked-sound _ _ (sym checked-there ∙ h)
 
     pub signature-small : len ≤ packageLimit → sectionEnd signature ≤ packageLimit
     signature-small l =

@@ -71,11 +71,11 @@ module _ (s : List ℕ) (names : Entry) (sound : SoundEntry s packageLimit names
   -- in the shape of what is known in a turn
   module _ {end n : ℕ} {run : Ending} (d : end ≡ behind (names .at .0) (names .extent))
       (p : run ≡ stringsFrom s (end - at) at 1) (q : n ≡ extentTo at run) where
-    e : end ≡ names .at .0 + names .extent
-    e = let i = sound .inside in near (names .at .0) (names .extent) d (omega arith)
+    names-end : end ≡ names .at .0 + names .extent
+    names-end = let i = sound .inside in near (names .at .0) (names .extent) d (omega arith)
 
     reached : n ≡ next .0 - at
-    reached = q ∙ ap (extentTo at) (p ∙ ap (λ (x : ℕ). stringsFrom s (x - at) at 1) e ∙ next .2)
+    reached = q ∙ ap (extentTo at) (p ∙ ap (λ (x : ℕ). stringsFrom s (x - at) at 1) names-end ∙ next .2)
 
     bounds : (at < next .0) × (next .0 ≤ at + (names .at .0 + names .extent - at))
     bounds = (positive s _ at 1 (next .0) (next .2) (omega arith), bound s _ at 1 (next .0) (next .2) .1)
@@ -94,7 +94,7 @@ module _ (s : List ℕ) (names : Entry) (sound : SoundEntry s packageLimit names
         rw w (next .1)
 
     same-text : {t : List ℕ} → t ≡ take (n - 1) (drop at s) → t ≡ textOf s (elementOf s names k)
-    same-text h = h ∙ rw (q, p, e) (sym text)
+    same-text h = h ∙ rw (q, p, names-end) (sym text)
 
     module _ (name : List ℕ) (versions : Entry) {v : Sought}
         (w : v ≡ versionFrom s name names versions (names .count - k) k)

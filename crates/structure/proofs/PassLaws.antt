@@ -40,20 +40,20 @@ header-sound len start h k =
 -- its checks found, w what the records' checks found
 module _ (s : List ℕ) (len start : ℕ) {place : ℕ} {h : HeaderRecord} (e : place ≡ start) (r : h ≡ headerRecordAt s place)
     {v : Verdict} (p : v ≡ headerCheck len start h) where
-  q : h ≡ headerRecordAt s start
-  q = r ∙ ap (headerRecordAt s) e
+  header-there : h ≡ headerRecordAt s start
+  header-there = r ∙ ap (headerRecordAt s) e
 
   pub refused : {number at : ℕ} → v ≡ Fail number at → Unsound number at ≡ structureChecked s len start
   unfolding structureCheck
-  refused k = rw (both-fail _ (rw q at (sym p ∙ k)))
+  refused k = rw (both-fail _ (rw header-there at (sym p ∙ k)))
 
   module _ {w : Verdict} (k : v ≡ Pass) (j : w ≡ recordsCheck s (sectionOf start h)) where
     rest : structureCheck s len start ≡ w
     unfolding structureCheck
-    rest = both-pass {rest = recordsCheck s (sectionAt s start)} (rw q at (sym p ∙ k)) ∙ sym (rw q at j)
+    rest = both-pass {rest = recordsCheck s (sectionAt s start)} (rw header-there at (sym p ∙ k)) ∙ sym (rw header-there at j)
 
     pub sound : w ≡ Pass → Sound (sectionOf start h) ≡ structureChecked s len start
-    sound l = rw (rest ∙ l, q)
+    sound l = rw (rest ∙ l, header-there)
 
     pub unsound : {number at : ℕ} → w ≡ Fail number at → Unsound number at ≡ structureChecked s len start
     unsound l = rw (rest ∙ l)

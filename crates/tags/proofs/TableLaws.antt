@@ -62,11 +62,11 @@ four t i a b c d =
     rw (p, q, r)
 
 module _ (t s : List ℕ) (at : ℕ) {tag k : ℕ} (read : tag ≡ be32At s (at + 0)) (e : k ≡ slotOf tag) where
-  p : tag ≡ be32At s at
-  p = read ∙ rw add-zero
+  tag-at : tag ≡ be32At s at
+  tag-at = read ∙ rw add-zero
 
   slot-of : k ≡ slotOf (be32At s at)
-  slot-of = e ∙ ap slotOf p
+  slot-of = e ∙ ap slotOf tag-at
 
   pub left-out : slots ≤ k → t ≡ noted (indexRecordAt s at) t
   unfolding noted
@@ -76,5 +76,5 @@ module _ (t s : List ℕ) (at : ℕ) {tag k : ℕ} (read : tag ≡ be32At s (at 
       → set (set (set (set t (4 * k) tag) (4 * k + 1) ty) (4 * k + 2) offset) (4 * k + 3) count ≡ noted (indexRecordAt s at) t
   unfolding noted
   put q r w l =
-      rw (p, q, r, w, ← slot-of, lt-ltb k slots l)
+      rw (tag-at, q, r, w, ← slot-of, lt-ltb k slots l)
       (four t (4 * k) (be32At s at) (be32At s (at + 4)) (be32At s (at + 8)) (be32At s (at + 12)))
