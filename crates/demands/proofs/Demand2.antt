@@ -11,7 +11,8 @@ use Rattle.format.specs.declared.verdict.Verdict.the-variants.{Pass}
 use Rattle.format.specs.Sizes.{packageLimit, leadSize}
 use Rattle.format.specs.Places.{sectionEnd}
 use Rattle.structure.specs.Structure.{sectionAt}
-use Rattle.package.specs.Package.{alignUp, headerStart, signatureAt, headerAt}
+use Rattle.format.specs.Places.{alignUp}
+use Rattle.package.specs.Package.{headerStart, signatureAt, headerAt}
 use Rattle.rules.specs.Rules.{rulesOver, rulesCheck}
 use Rattle.book.specs.Doses.{doses, sumOf}
 use Rattle.book.specs.RowTheorems.{HoldDoses}
@@ -35,14 +36,14 @@ use Rattle.demands.proofs.TextLawful.{texts-lawful}
 use Rattle.demands.proofs.BookLawful.{book-lawful, book-sum}
 
 -- H is where the header starts
-start-first : (place : ℕ) → FirstMultiple 8 place (alignUp place)
+start-first : (place : ℕ) → FirstMultiple 8 place (alignUp 8 place)
 start-first place = record { multiple = omega arith; after = omega arith; first = λ other h l. omega arith }
 
-start-only : (place start : ℕ) → FirstMultiple 8 place start → start ≡ alignUp place
+start-only : (place start : ℕ) → FirstMultiple 8 place start → start ≡ alignUp 8 place
 start-only place start f =
     let a = f .multiple in
     let b = f .after in
-    let c = f .first (alignUp place) (omega arith) (omega arith) in
+    let c = f .first (alignUp 8 place) (omega arith) (omega arith) in
     omega arith
 
 module _ (edition : Edition) (s : List ℕ) where

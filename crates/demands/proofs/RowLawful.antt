@@ -10,10 +10,10 @@ use lib.Seq.{length-take-le, take-suc, take-add, drop-drop, drop-at, getD-take, 
 use native.Mathlib.Omega.{arith}
 use borrow.Author.Tests.{eqb-true, eqb-false, leb-true, leb-false}
 use Rattle.strings.specs.declared.Ending.the-variants.{Ends}
-use Rattle.strings.specs.Strings.{stringsFrom}
+use Rattle.strings.specs.Strings.{stringsFrom, inRow}
 use Rattle.strings.proofs.StringLaws.{bound, positive, tight, split}
 use Rattle.strings.proofs.RowLaws.{single-ends, single-text}
-use Rattle.demands.specs.Lawful.{Each, inRow, Directory, Directories}
+use Rattle.demands.specs.Lawful.{Each, Directory, Directories}
 
 -- each zero byte of n bytes from a place on stands right behind a slash of theirs
 abbrev pub SlashEnds : List ℕ → ℕ → ℕ → Type 0

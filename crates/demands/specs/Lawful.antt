@@ -7,6 +7,7 @@ use mathlib.Core.Bool.{Bool, true, cond}
 use lib.ListN.{length, getD, take, drop}
 use lib.Dec.{eqb}
 use Rattle.be.specs.Numbers.{be16At, be32At}
+use Rattle.strings.specs.Strings.{inRow}
 use Rattle.format.specs.declared.section.Section.{Section}
 use Rattle.format.specs.declared.records.IndexRecord.{IndexRecord}
 use Rattle.format.specs.Sizes.{packageLimit, leadSize}
@@ -136,11 +137,6 @@ pub record LawfulGroups (s : List ℕ) (signature header : Section) : Type 0 whe
 abbrev pub TextIs : List ℕ → Section → ℕ → List ℕ → Type 0
 TextIs s section tag text =
     WhereTagged s section tag (λ (e : IndexRecord). take (length text) (drop (inFile section (e .offset)) s) ≡ text)
-
--- texts in a row, each with a zero byte behind it
-unfoldable pub inRow : List (List ℕ) → List ℕ
-inRow [] = []
-inRow (text ∷ rest) = text ++ 0 ∷ inRow rest
 
 -- a text without zero bytes that ends with "/" (0x2F)
 pub record Directory (text : List ℕ) : Type 0 where

@@ -1,6 +1,6 @@
 -- Document 01, "Header structure": where the parts of a structure lie. A structure is its header record, nindex index
 -- records and hsize bytes of store.
-use Prim.Native.Nat.{ℕ, _+_, _*_}
+use Prim.Native.Nat.{ℕ, _+_, _-_, _*_, _/_}
 use Rattle.format.specs.declared.section.Section.{Section}
 use Rattle.places.specs.declared.StoreOffset.{StoreOffset}
 use Rattle.format.specs.Sizes.{headerRecordSize, indexRecordSize}
@@ -17,3 +17,7 @@ sectionEnd section = storePlace section + section .hsize
 -- a place in the store, as a place in the file
 abbrev pub inFile : Section → StoreOffset → ℕ
 inFile section offset = storePlace section + offset .0
+
+-- the first multiple of a number at or after a place
+abbrev pub alignUp : ℕ → ℕ → ℕ
+alignUp n place = (place + (n - 1)) / n * n

@@ -1,5 +1,5 @@
 -- Document 01, checks 2 to 13 over a whole package. The length is a number of its own.
-use Prim.Native.Nat.{ℕ, _+_, _*_, _/_}
+use Prim.Native.Nat.{ℕ}
 use mathlib.Core.List.{List}
 use mathlib.Core.Bool.{cond}
 use lib.ListN.{length}
@@ -8,7 +8,7 @@ use Rattle.format.specs.declared.section.Section.{Section}
 use Rattle.format.specs.declared.verdict.Verdict.{Verdict}
 use Rattle.format.specs.declared.verdict.Verdict.the-variants.{Pass, Fail}
 use Rattle.format.specs.Sizes.{packageLimit, leadSize}
-use Rattle.format.specs.Places.{sectionEnd}
+use Rattle.format.specs.Places.{sectionEnd, alignUp}
 use Rattle.format.specs.Lead.{leadOf}
 use Rattle.format.specs.Verdicts.{check, both}
 use Rattle.structure.specs.Structure.{sectionAt, structureCheck}
@@ -24,16 +24,12 @@ sizeCheck len =
     (check (leb leadSize len) 3 len
     Pass)
 
--- the first multiple of 8 at or after a place
-abbrev pub alignUp : ℕ → ℕ
-alignUp place = (place + 7) / 8 * 8
-
 -- the signature starts at 96, the header at H, the first multiple of 8 at or after the signature's end
 abbrev pub signatureAt : List ℕ → Section
 signatureAt s = sectionAt s leadSize
 
 abbrev pub headerStart : Section → ℕ
-headerStart signature = alignUp (sectionEnd signature)
+headerStart signature = alignUp 8 (sectionEnd signature)
 
 abbrev pub headerAt : List ℕ → Section
 headerAt s = sectionAt s (headerStart (signatureAt s))

@@ -1,6 +1,6 @@
 -- Strings in a row, each ended by a zero byte.
 use Prim.Native.Nat.{ℕ, zero, suc, _+_}
-use mathlib.Core.List.{List}
+use mathlib.Core.List.{List, [], _∷_, _++_}
 use mathlib.Core.Bool.{Bool, true, false, cond}
 use lib.ListN.{getD}
 use lib.Dec.{eqb, leb}
@@ -26,3 +26,8 @@ emptyStrings room at count = cond (leb count room) (Ends (at + count)) Open
 abbrev pub isEnded : Ending → Bool
 isEnded (Ends at) = true
 isEnded Open = false
+
+-- texts in a row, each with a zero byte behind it
+unfoldable pub inRow : List (List ℕ) → List ℕ
+inRow [] = []
+inRow (text ∷ rest) = text ++ 0 ∷ inRow rest

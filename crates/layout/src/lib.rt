@@ -1,0 +1,27 @@
+// The layout of a package that is written, and its lead.
+ghost use mathlib.Core.Path.{_≡_};
+ghost use lib.Seq.{sets};
+ghost use Rattle.layout.specs.Layout.{nameBytes, leadBytes};
+use format::Lead;
+
+// Puts a name into the lead, with zero bytes behind it.
+fn put_name(out: &mut [u8], name: &[u8])
+    ensures { λ r. ⌜ now (out .exit) ≡ sets (now (out .entry)) 10 (nameBytes (now (name .entry))) ⌝ }
+{
+    let shown = be::part(name, 0, 66);
+    let len = shown.len();
+    put::bytes(out, Lead::NAME, shown);
+    put::zeros(out, Lead::NAME + len, 66 - len);
+}
+
+// Puts the lead at the front.
+pub fn put_lead(out: &mut [u8], name: &[u8])
+    ensures { λ r. ⌜ now (out .exit) ≡ sets (now (out .entry)) 0 (leadBytes (now (name .entry))) ⌝ }
+{
+    put::number(out, Lead::MAGIC, 0xEDAB_EEDB);
+    put::number(out, Lead::MAJOR, 0x0300_0000);
+    put::zeros(out, Lead::ARCHITECTURE, 2);
+    put_name(out, name);
+    put::number(out, Lead::SYSTEM, 0x0001_0005);
+    put::zeros(out, Lead::RESERVED, 16);
+}

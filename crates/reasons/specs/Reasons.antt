@@ -1,0 +1,111 @@
+-- Request 1: the reasons of refusal 32, which is placed at 0.
+use Prim.Native.Nat.{ℕ, zero, suc, _+_, _*_}
+use mathlib.Core.List.{List, [], _∷_}
+use mathlib.Core.Bool.{Bool, true, false, not, _||_}
+use lib.ListN.{length}
+use lib.Dec.{eqb, leb}
+use Rattle.be.specs.Numbers.{be32At}
+use Rattle.strings.specs.declared.Ending.{Ending}
+use Rattle.strings.specs.declared.Ending.the-variants.{Ends, Open}
+use Rattle.strings.specs.Strings.{stringsFrom, isEnded}
+use Rattle.format.specs.Sizes.{nindexLimit}
+use Rattle.format.specs.declared.records.IndexRecord.{IndexRecord}
+use Rattle.format.specs.declared.verdict.Verdict.{Verdict}
+use Rattle.format.specs.declared.verdict.Verdict.the-variants.{Pass}
+use Rattle.format.specs.Verdicts.{check, both}
+use Rattle.entries.specs.declared.types.ElementSize.{ElementSize}
+use Rattle.entries.specs.declared.types.ElementSize.the-variants.{Bytes, ToZero, Unlawful}
+use Rattle.entries.specs.Types.{elementSize}
+use Rattle.entries.specs.Entries.{typeLawful, countRight}
+use Rattle.put.specs.Puts.{bytesOf}
+use Rattle.lists.specs.Lists.{ListEntry, entriesOf, isWhole, sizesMeet}
+
+-- an entry's index record, with its data at an offset of the store
+abbrev pub recordOf : ListEntry → ℕ → IndexRecord
+recordOf entry offset =
+    record { tag = entry .tag; ty = entry .ty; offset = record { 0 = offset }; count = entry .count }
+
+-- its data is exactly what type and count say: size × count bytes, or count strings and nothing behind the last zero
+abbrev pub endsAt : Ending → ℕ → Bool
+endsAt (Ends to) end = eqb to end
+endsAt Open end = false
+
+abbrev pub exactFor : ElementSize → ℕ → List ℕ → Bool
+exactFor (Bytes n) count bytes = eqb (n * count) (length bytes)
+exactFor ToZero count bytes = endsAt (stringsFrom bytes (length bytes) 0 count) (length bytes)
+exactFor Unlawful count bytes = false
+
+unfoldable pub dataExact : ℕ → ℕ → List ℕ → Bool
+dataExact ty count bytes = exactFor (elementSize ty) count bytes
+
+-- one of the tags
+unfoldable pub tagIn : ℕ → List ℕ → Bool
+tagIn tag [] = false
+tagIn tag (first ∷ rest) = eqb first tag || tagIn tag rest
+
+-- an entry, behind others of which the tags are given: checks 9 and 10, its data, check 13
+unfoldable pub entryReasons : List ℕ → ListEntry → Verdict
+entryReasons seen entry =
+    check (typeLawful (recordOf entry 0)) 32 0
+    (check (countRight (recordOf entry 0)) 32 0
+    (check (dataExact (entry .ty) (entry .count) (entry .bytes)) 32 0
+    (check (not (tagIn (entry .tag) seen)) 32 0
+    Pass)))
+
+unfoldable pub entriesReasons : List ℕ → List ListEntry → Verdict
+entriesReasons seen [] = Pass
+entriesReasons seen (entry ∷ rest) = both (entryReasons seen entry) (entriesReasons (entry .tag ∷ seen) rest)
+
+-- a list: in range for check 7, and each of its entries
+unfoldable pub listReasons : List ListEntry → Verdict
+listReasons entries =
+    check (leb 1 (length entries)) 32 0
+    (check (leb (length entries) nindexLimit) 32 0
+    (entriesReasons [] entries))
+
+-- the writer puts 1000 first in the signature itself: int32, count 1
+abbrev pub sizeTag : ℕ
+sizeTag = 1000
+
+abbrev pub sizeEntry : ℕ → ListEntry
+sizeEntry size = record { tag = sizeTag; ty = 4; count = 1; bytes = bytesOf size }
+
+-- a name: 1 to 65 bytes, none zero
+abbrev pub nameLimit : ℕ
+nameLimit = 65
+
+abbrev pub hasZero : List ℕ → Bool
+hasZero name = isEnded (stringsFrom name (length name) 0 1)
+
+unfoldable pub nameReasons : List ℕ → Verdict
+nameReasons name =
+    check (leb 1 (length name)) 32 0
+    (check (leb (length name) nameLimit) 32 0
+    (check (not (hasZero name)) 32 0
+    Pass))
+
+-- a list as it is lent: well-formed
+unfoldable pub formReasons : List ℕ → List ℕ → Verdict
+formReasons list row =
+    check (isWhole list) 32 0
+    (check (sizesMeet list row) 32 0
+    Pass)
+
+-- 32 for a name and two lists as they are lent. The signature's list is tested with the 1000 that comes first, so that a 1000
+-- of the caller's is a repeated tag; that 1000 passes whatever its number is.
+unfoldable pub reasons : List ℕ → List ℕ → List ℕ → List ℕ → List ℕ → Verdict
+reasons name signature signatureRow header headerRow =
+    both (formReasons signature signatureRow)
+    (both (formReasons header headerRow)
+    (both (nameReasons name)
+    (both (listReasons (sizeEntry 0 ∷ entriesOf signature signatureRow))
+    (listReasons (entriesOf header headerRow)))))
+
+-- for the walk over a lent list: the tags before entry i, with that of the writer's own entry where it comes first
+abbrev pub ownTags : Bool → List ℕ
+ownTags true = sizeTag ∷ []
+ownTags false = []
+
+unfoldable pub tagsBefore : Bool → List ℕ → ℕ → List ℕ
+tagsBefore own list zero = ownTags own
+tagsBefore own list (suc i) = be32At list (16 * i) ∷ tagsBefore own list i

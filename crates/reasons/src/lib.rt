@@ -1,0 +1,189 @@
+// Whether a name and two lists of entries may be written: refusal 32.
+ghost use mathlib.Core.Path.{_≡_};
+ghost use mathlib.Core.List.{[], _∷_};
+ghost use Prim.Native.Nat.{_/_, _≤_};
+ghost use lib.ListN.{length};
+ghost use Rattle.lists.specs.Lists.{entryOf, entriesOf};
+ghost use Rattle.reasons.specs.Reasons.{endsAt, dataExact, tagIn, tagsBefore, ownTags, entryReasons, entriesReasons, listReasons, sizeEntry, nameReasons, formReasons, reasons};
+use entries::ElementSize;
+use format::HeaderRecord;
+use format::IndexRecord;
+use format::Verdict;
+use lists::ListRecord;
+use places::StoreOffset;
+use strings::Ending;
+
+// The tag of the entry that the writer puts first in the signature.
+pub const SIZE_TAG: u32 = 1000;
+
+// The longest name.
+pub const NAME_LIMIT: usize = 65;
+
+// Whether a run of strings ended at a place.
+fn ends_at(run: Ending, end: usize) -> bool
+    ensures { λ r. ⌜ r ≡ endsAt run end ⌝ }
+{
+    match run {
+        Ending::Ends(to) => to == end,
+        Ending::Open => false,
+    }
+}
+
+// Whether data is exactly what type and count say.
+fn data_exact(ty: u32, count: u32, bytes: &[u8]) -> bool
+    ensures { λ r. ⌜ r ≡ dataExact ty count (now (bytes .entry)) ⌝ }
+{
+    let size = entries::types::element_size(ty);
+    match size {
+        ElementSize::Bytes(n) => {
+            let whole = n * count as usize;
+            whole == bytes.len()
+        }
+        ElementSize::ToZero => {
+            let run = strings::strings_end(bytes, 0, bytes.len(), count);
+            ends_at(run, bytes.len())
+        }
+        ElementSize::Unlawful => false,
+    }
+}
+
+// Whether one of the first `i` entries of a list, or the writer's own where that comes first, has the tag.
+fn is_repeated(list: &[u8], own: bool, i: u32, tag: u32) -> bool
+    ensures { λ r. ⌜ r ≡ tagIn tag (tagsBefore own (now (list .entry)) i) ⌝ }
+{
+    if own {
+        if tag == SIZE_TAG {
+            return true;
+        }
+    }
+    repeats::tag_among(list, i, tag)
+}
+
+// The reasons of entry `i` of a list, of its 16 bytes and its data.
+fn entry_check(list: &[u8], own: bool, i: u32, e: ListRecord, bytes: &[u8]) -> Verdict
+    ensures { λ r. ⌜ r ≡ entryReasons (tagsBefore own (now (list .entry)) i) (entryOf e (now (bytes .entry))) ⌝ }
+{
+    let record = IndexRecord {
+        tag: e.tag,
+        ty: e.ty,
+        offset: StoreOffset::of(0),
+        count: e.count,
+    };
+    if !entries::type_lawful(record) {
+        return Verdict::Fail(32, 0);
+    }
+    if !entries::count_right(record) {
+        return Verdict::Fail(32, 0);
+    }
+    if !data_exact(e.ty, e.count, bytes) {
+        return Verdict::Fail(32, 0);
+    }
+    if is_repeated(list, own, i, e.tag) {
+        return Verdict::Fail(32, 0);
+    }
+    Verdict::Pass
+}
+
+// The reasons of each entry of a list in turn.
+fn entries_check(list: &[u8], row: &[u8], own: bool) -> Verdict
+    requires { ⌜ length (now list) / 16 ≤ 512 ⌝ }
+    ensures { λ r. ⌜ r ≡ entriesReasons (ownTags own) (entriesOf (now (list .entry)) (now (row .entry))) ⌝ }
+{
+    let n = lists::count(list) as u32;
+    let mut at = 0;
+    let mut i = 0;
+    while i < n {
+        let e = lists::entry(list, i);
+        let bytes = lists::bytes(row, at, e.size);
+        let v = entry_check(list, own, i, e, bytes);
+        if let Verdict::Fail(number, place) = v {
+            return Verdict::Fail(number, place);
+        }
+        at += e.size as usize;
+        i += 1;
+    }
+    Verdict::Pass
+}
+
+// The reasons of the signature's list, with the 1000 that comes first, whatever its number.
+fn signature_check(list: &[u8], row: &[u8]) -> Verdict
+    ensures { λ r. ⌜ r ≡ listReasons (sizeEntry 0 ∷ entriesOf (now (list .entry)) (now (row .entry))) ⌝ }
+{
+    if HeaderRecord::NINDEX_LIMIT as usize <= lists::count(list) {
+        return Verdict::Fail(32, 0);
+    }
+    entries_check(list, row, true)
+}
+
+// The reasons of the header's list.
+fn header_check(list: &[u8], row: &[u8]) -> Verdict
+    ensures { λ r. ⌜ r ≡ listReasons (entriesOf (now (list .entry)) (now (row .entry))) ⌝ }
+{
+    let n = lists::count(list);
+    if n < 1 {
+        return Verdict::Fail(32, 0);
+    }
+    if (HeaderRecord::NINDEX_LIMIT as usize) < n {
+        return Verdict::Fail(32, 0);
+    }
+    entries_check(list, row, false)
+}
+
+// The reasons of a name.
+fn name_check(name: &[u8]) -> Verdict
+    ensures { λ r. ⌜ r ≡ nameReasons (now (name .entry)) ⌝ }
+{
+    let len = name.len();
+    if len < 1 {
+        return Verdict::Fail(32, 0);
+    }
+    if NAME_LIMIT < len {
+        return Verdict::Fail(32, 0);
+    }
+    if strings::ended(strings::strings_end(name, 0, len, 1)) {
+        return Verdict::Fail(32, 0);
+    }
+    Verdict::Pass
+}
+
+// The reasons of a list as it is lent.
+fn form_check(list: &[u8], row: &[u8]) -> Verdict
+    ensures { λ r. ⌜ r ≡ formReasons (now (list .entry)) (now (row .entry)) ⌝ }
+{
+    if !lists::is_whole(list) {
+        return Verdict::Fail(32, 0);
+    }
+    if !lists::sizes_meet(list, row) {
+        return Verdict::Fail(32, 0);
+    }
+    Verdict::Pass
+}
+
+// Refusal 32.
+pub fn check(
+    name: &[u8],
+    signature: &[u8],
+    signature_data: &[u8],
+    header: &[u8],
+    header_data: &[u8],
+) -> Verdict
+    ensures { λ r. ⌜ r ≡ reasons (now (name .entry)) (now (signature .entry)) (now («signature_data» .entry)) (now (header .entry)) (now («header_data» .entry)) ⌝ }
+{
+    let first = form_check(signature, signature_data);
+    if let Verdict::Fail(number, place) = first {
+        return Verdict::Fail(number, place);
+    }
+    let second = form_check(header, header_data);
+    if let Verdict::Fail(number, place) = second {
+        return Verdict::Fail(number, place);
+    }
+    let named = name_check(name);
+    if let Verdict::Fail(number, place) = named {
+        return Verdict::Fail(number, place);
+    }
+    let signed = signature_check(signature, signature_data);
+    if let Verdict::Fail(number, place) = signed {
+        return Verdict::Fail(number, place);
+    }
+    header_check(header, header_data)
+}

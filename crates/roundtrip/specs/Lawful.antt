@@ -1,0 +1,73 @@
+-- Request 1: what may be written, as rules with no order.
+use Prim.Native.Nat.{ℕ, _+_, _*_, _≤_, _<_}
+use mathlib.Core.Path.{_≡_}
+use mathlib.Core.Logic.{_⊎_, _≢_}
+use mathlib.Core.List.{List, []}
+use lib.ListN.{length, getD}
+use Rattle.strings.specs.Strings.{inRow}
+use Rattle.format.specs.Sizes.{packageLimit, nindexLimit}
+use Rattle.entries.specs.declared.types.ElementSize.the-variants.{Bytes, ToZero}
+use Rattle.entries.specs.Types.{elementSize}
+use Rattle.lists.specs.Lists.{ListEntry, listOf, rowOf}
+use Rattle.reasons.specs.Reasons.{sizeTag, nameLimit}
+use Rattle.layout.specs.Layout.{written}
+
+abbrev pub nth : List ListEntry → ℕ → ListEntry
+nth entries i = getD entries i (record { tag = 0; ty = 0; count = 0; bytes = [] })
+
+-- bytes that are so many strings in a row, each with its zero byte, and nothing behind the last
+pub record Strings (bytes : List ℕ) (count : ℕ) : Type 0 where
+  pub texts : List (List ℕ)
+  pub number : length texts ≡ count
+  pub row : bytes ≡ inRow texts
+  pub whole : (k i : ℕ) → k < length texts → i < length (getD texts k []) → getD (getD texts k []) i 0 ≢ 0
+
+-- an entry that a structure may hold, with data that is exactly what type and count say
+pub record LawfulEntry (entry : ListEntry) : Type 0 where
+  -- types 0, 5 and 10 upward are refused
+  pub type′ : (1 ≤ entry .ty) × (entry .ty ≢ 5) × (entry .ty ≤ 9)
+  -- count is at least 1, and exactly 1 for types 6 and 9
+  pub count : 1 ≤ entry .count
+  pub single : (entry .ty ≡ 6) ⊎ (entry .ty ≡ 9) → entry .count ≡ 1
+  -- size × count bytes, or count strings
+  pub fixed : (n : ℕ) → elementSize (entry .ty) ≡ Bytes n → length (entry .bytes) ≡ n * entry .count
+  pub strings : elementSize (entry .ty) ≡ ToZero → Strings (entry .bytes) (entry .count)
+
+-- each entry lawful, no tag twice
+pub record LawfulEntries (entries : List ListEntry) : Type 0 where
+  pub each : (i : ℕ) → i < length entries → LawfulEntry (nth entries i)
+  pub once : (i j : ℕ) → i < length entries → j < i → nth entries j .tag ≢ nth entries i .tag
+
+-- 1 to 65 bytes, none zero
+pub record LawfulName (name : List ℕ) : Type 0 where
+  pub some : 1 ≤ length name
+  pub within : length name ≤ nameLimit
+  pub nonzero : (i : ℕ) → i < length name → getD name i 0 ≢ 0
+
+-- a list of entries as it is lent: each entry's four numbers in 16 bytes, and the data in a row
+pub record LentAs (list row : List ℕ) (entries : List ListEntry) : Type 0 where
+  pub numbers : list ≡ listOf entries
+  pub rows : row ≡ rowOf entries
+  pub wide : (i : ℕ) → i < length entries
+      → (nth entries i .tag < 4294967296) × (nth entries i .ty < 4294967296) × (nth entries i .count < 4294967296)
+      × (length (nth entries i .bytes) < 4294967296)
+
+-- what may be written into a buffer with so much room
+pub record LawfulWriting (name signature signatureRow header headerRow : List ℕ) (room : ℕ) : Type 0 where
+  pub named : LawfulName name
+  -- two lists of entries
+  pub signed : List ListEntry
+  pub signedLent : LentAs signature signatureRow signed
+  pub headed : List ListEntry
+  pub headedLent : LentAs header headerRow headed
+  -- in range for check 7, counting the 1000 that comes first in the signature
+  pub fewSigned : length signed + 1 ≤ nindexLimit
+  pub someHeaded : 1 ≤ length headed
+  pub fewHeaded : length headed ≤ nindexLimit
+  -- lawful, and none of the signature's is 1000
+  pub signedLawful : LawfulEntries signed
+  pub notSize : (i : ℕ) → i < length signed → nth signed i .tag ≢ sizeTag
+  pub headedLawful : LawfulEntries headed
+  -- within limit and room
+  pub limit : length (written name signed headed) ≤ packageLimit
+  pub fits : length (written name signed headed) ≤ room

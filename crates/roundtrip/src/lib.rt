@@ -1,0 +1,1 @@
+// What is written is read back, entry for entry, and written again, byte for byte.

@@ -1,0 +1,54 @@
+-- The sizes of a package that is to be written: what the plan of a writing finds.
+use Prim.Native.Nat.{ℕ, _+_, _*_, _/_}
+use mathlib.Core.List.{List}
+use lib.ListN.{length}
+use Rattle.format.specs.Sizes.{leadSize, headerRecordSize, indexRecordSize}
+use Rattle.format.specs.Places.{alignUp}
+use Rattle.format.specs.declared.verdict.Verdict.{Verdict}
+use Rattle.format.specs.declared.verdict.Verdict.the-variants.{Pass, Fail}
+use Rattle.lists.specs.Lists.{entriesOf}
+use Rattle.layout.specs.Layout.{storeFrom}
+use Rattle.writer.specs.declared.Sizes.{Sizes}
+use Rattle.writer.specs.declared.Plan.{Plan}
+use Rattle.writer.specs.declared.Plan.the-variants.{Fits}
+use Rattle.writer.specs.declared.Plan.the-variants as plan
+use Rattle.writer.specs.Writing.{roomCheck}
+
+-- a structure with so many index records and a store of so many bytes
+abbrev pub structureSize : ℕ → ℕ → ℕ
+structureSize nindex hsize = headerRecordSize + indexRecordSize * nindex + hsize
+
+-- where the signature ends, with n entries behind 1000 and a store of so many bytes
+abbrev pub signatureEnd : ℕ → ℕ → ℕ
+signatureEnd n hsize = leadSize + structureSize (n + 1) hsize
+
+-- the stores of a signature, behind the four bytes of 1000, and of a header
+abbrev pub signatureStore : List ℕ → List ℕ → ℕ
+signatureStore list row = 4 + length (storeFrom 4 (entriesOf list row))
+
+abbrev pub headerStore : List ℕ → List ℕ → ℕ
+headerStore list row = length (storeFrom 0 (entriesOf list row))
+
+-- the sizes of a package with stores of the given sizes
+abbrev pub sizesWith : List ℕ → List ℕ → ℕ → ℕ → Sizes
+sizesWith signature header first second =
+    record {
+      signature = first;
+      start = alignUp 8 (signatureEnd (length signature / 16) first);
+      header = second;
+      length = alignUp 8 (signatureEnd (length signature / 16) first) + structureSize (length header / 16) second;
+    }
+
+abbrev pub sizesOf : List ℕ → List ℕ → List ℕ → List ℕ → Sizes
+sizesOf signature signatureRow header headerRow =
+    sizesWith signature header (signatureStore signature signatureRow) (headerStore header headerRow)
+
+-- the sizes, where 33 and 34 pass
+abbrev pub planAs : Verdict → Sizes → Plan
+planAs Pass sizes = Fits sizes
+planAs (Fail number place) sizes = plan.Refused number place
+
+unfoldable pub planned : List ℕ → List ℕ → List ℕ → List ℕ → ℕ → Plan
+planned signature signatureRow header headerRow room =
+    planAs (roomCheck (sizesOf signature signatureRow header headerRow .length) room)
+    (sizesOf signature signatureRow header headerRow)

@@ -1,0 +1,151 @@
+// Puts a structure into a buffer: its header record, its index and its store.
+ghost use mathlib.Core.Path.{_≡_};
+ghost use mathlib.Core.List.{[], _∷_, _++_};
+ghost use Prim.Native.Nat.{ℕ, _+_, _*_, _/_, _≤_, _<_};
+ghost use lib.ListN.{length};
+ghost use lib.Seq.{sets};
+ghost use Rattle.format.specs.Sizes.{packageLimit};
+ghost use Rattle.put.specs.Puts.{fourBytes, zeros};
+ghost use Rattle.lists.specs.Lists.{entriesOf};
+ghost use Rattle.reasons.specs.Reasons.{sizeEntry};
+ghost use Rattle.layout.specs.Layout.{offsetFor, indexFrom, storeFrom, structureBytes};
+use format::HeaderRecord;
+use format::IndexRecord;
+use lists::ListRecord;
+
+// Where data of a type goes, at or after a place of the store.
+fn offset_for(ty: u32, filled: usize) -> usize
+    requires { ⌜ filled < 4294967296 ⌝ }
+    ensures { λ r. ⌜ (r ≡ offsetFor ty filled) × (filled ≤ r) × (r ≤ filled + 3) ⌝ }
+{
+    match ty {
+        3 => (filled + 1) / 2 * 2,
+        4 => (filled + 3) / 4 * 4,
+        _ => filled,
+    }
+}
+
+// Up to where the store of a list is filled, from a place on.
+pub(crate) fn store_end(list: &[u8], row: &[u8], start: usize) -> usize
+    requires { ⌜ (length (now list) / 16 ≤ 512) × (length (now row) ≤ packageLimit) × (start ≤ 4) ⌝ }
+    ensures { λ r. ⌜ (r ≡ start + length (storeFrom start (entriesOf (now (list .entry)) (now (row .entry))))) × (r ≤ 33556484) ⌝ }
+{
+    let n = lists::count(list) as u32;
+    let mut at = 0;
+    let mut filled = start;
+    let mut i = 0;
+    while i < n {
+        let e = lists::entry(list, i);
+        let bytes = lists::bytes(row, at, e.size);
+        let offset = offset_for(e.ty, filled);
+        filled = offset + bytes.len();
+        at += e.size as usize;
+        i += 1;
+    }
+    filled
+}
+
+// Puts four numbers at a place.
+fn put_numbers(out: &mut [u8], at: usize, a: u32, b: u32, c: u32, d: u32)
+    requires { ⌜ at + 16 ≤ length (now out) ⌝ }
+    ensures { λ r. ⌜ now (out .exit) ≡ sets (now (out .entry)) at (fourBytes a b c d) ⌝ }
+{
+    put::number(out, at, a);
+    put::number(out, at + 4, b);
+    put::number(out, at + 8, c);
+    put::number(out, at + 12, d);
+}
+
+// Puts the index record of an entry at a place, its data being at an offset of the store.
+fn put_record(out: &mut [u8], at: usize, e: ListRecord, offset: usize)
+    requires { ⌜ (at + 16 ≤ length (now out)) × (offset < 4294967296) ⌝ }
+    ensures { λ r. ⌜ now (out .exit) ≡ sets (now (out .entry)) at (fourBytes (e .tag) (e .ty) offset (e .count)) ⌝ }
+{
+    put_numbers(out, at, e.tag, e.ty, offset as u32, e.count);
+}
+
+// Puts a list's index records at a place, the store being filled up to `start`.
+fn put_index(out: &mut [u8], place: usize, start: usize, list: &[u8], row: &[u8])
+    requires { ⌜ (length (now list) / 16 ≤ 512) × (length (now row) ≤ packageLimit) × (start ≤ 4) × (place + 16 * (length (now list) / 16) ≤ length (now out)) ⌝ }
+    ensures { λ r. ⌜ now (out .exit) ≡ sets (now (out .entry)) place (indexFrom start (entriesOf (now (list .entry)) (now (row .entry)))) ⌝ }
+{
+    let n = lists::count(list) as u32;
+    let mut at = 0;
+    let mut filled = start;
+    let mut i = 0;
+    while i < n {
+        let e = lists::entry(list, i);
+        let bytes = lists::bytes(row, at, e.size);
+        let offset = offset_for(e.ty, filled);
+        put_record(out, place + IndexRecord::SIZE * i as usize, e, offset);
+        filled = offset + bytes.len();
+        at += e.size as usize;
+        i += 1;
+    }
+}
+
+// Puts zero bytes and then bytes at a place.
+fn put_data(out: &mut [u8], at: usize, gap: usize, bytes: &[u8])
+    requires { ⌜ at + (gap + length (now bytes)) ≤ length (now out) ⌝ }
+    ensures { λ r. ⌜ now (out .exit) ≡ sets (now (out .entry)) at (zeros gap ++ now (bytes .entry)) ⌝ }
+{
+    put::zeros(out, at, gap);
+    put::bytes(out, at + gap, bytes);
+}
+
+// Puts a list's data at a place, with zero bytes for alignment, the store being filled up to `start`.
+fn put_store(out: &mut [u8], place: usize, start: usize, list: &[u8], row: &[u8])
+    requires { ⌜ (length (now list) / 16 ≤ 512) × (length (now row) ≤ packageLimit) × (start ≤ 4) × (place + length (storeFrom start (entriesOf (now list) (now row))) ≤ length (now out)) ⌝ }
+    ensures { λ r. ⌜ now (out .exit) ≡ sets (now (out .entry)) place (storeFrom start (entriesOf (now (list .entry)) (now (row .entry)))) ⌝ }
+{
+    let n = lists::count(list) as u32;
+    let mut to = place;
+    let mut at = 0;
+    let mut filled = start;
+    let mut i = 0;
+    while i < n {
+        let e = lists::entry(list, i);
+        let bytes = lists::bytes(row, at, e.size);
+        let offset = offset_for(e.ty, filled);
+        let gap = offset - filled;
+        put_data(out, to, gap, bytes);
+        to += gap + bytes.len();
+        filled = offset + bytes.len();
+        at += e.size as usize;
+        i += 1;
+    }
+}
+
+// Puts a structure at a place, its store being of the given size.
+pub(crate) fn put_structure(out: &mut [u8], place: usize, list: &[u8], row: &[u8], size: usize)
+    requires { ⌜ (length (now list) / 16 ≤ 512) × (length (now row) ≤ packageLimit) × (size ≡ length (storeFrom 0 (entriesOf (now list) (now row)))) × (place + (16 + 16 * (length (now list) / 16) + size) ≤ length (now out)) × (size ≤ packageLimit) ⌝ }
+    ensures { λ r. ⌜ now (out .exit) ≡ sets (now (out .entry)) place (structureBytes (entriesOf (now (list .entry)) (now (row .entry)))) ⌝ }
+{
+    let n = lists::count(list);
+    put_numbers(out, place, 0x8EAD_E801, 0, n as u32, size as u32);
+    let index = place + HeaderRecord::SIZE;
+    put_index(out, index, 0, list, row);
+    put_store(out, index + IndexRecord::SIZE * n, 0, list, row);
+}
+
+// Puts the signature at a place, with 1000 first in its index and in its store, which is of the given size.
+pub(crate) fn put_signature(
+    out: &mut [u8],
+    place: usize,
+    list: &[u8],
+    row: &[u8],
+    size: usize,
+    number: u32,
+)
+    requires { ⌜ (length (now list) / 16 ≤ 512) × (length (now row) ≤ packageLimit) × (size ≡ 4 + length (storeFrom 4 (entriesOf (now list) (now row)))) × (place + (32 + 16 * (length (now list) / 16) + size) ≤ length (now out)) × (size ≤ packageLimit) ⌝ }
+    ensures { λ r. ⌜ now (out .exit) ≡ sets (now (out .entry)) place (structureBytes (sizeEntry number ∷ entriesOf (now (list .entry)) (now (row .entry)))) ⌝ }
+{
+    let n = lists::count(list);
+    put_numbers(out, place, 0x8EAD_E801, 0, n as u32 + 1, size as u32);
+    let index = place + HeaderRecord::SIZE;
+    put_numbers(out, index, reasons::SIZE_TAG, 4, 0, 1);
+    put_index(out, index + IndexRecord::SIZE, 4, list, row);
+    let store = index + IndexRecord::SIZE + IndexRecord::SIZE * n;
+    put::number(out, store, number);
+    put_store(out, store + 4, 4, list, row);
+}
