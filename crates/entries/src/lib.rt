@@ -3,7 +3,7 @@ ghost use mathlib.Core.Path.{_≡_};
 ghost use mathlib.Core.List.{[]};
 ghost use Rattle.entries.specs.declared.types.ElementSize.the-variants.{Bytes, ToZero};
 ghost use Rattle.entries.specs.Types.{elementSize};
-ghost use Rattle.entries.specs.Entries.{typeLawful, countRight, endFor, dataEnd, dataCheck, entryCheck};
+ghost use Rattle.entries.specs.Entries.{countRight, endFor, dataEnd, dataCheck, entryCheck};
 
 pub mod types;
 
@@ -14,18 +14,6 @@ use repeats::tag_before;
 use strings::Ending;
 pub use types::ElementSize;
 use types::element_size;
-
-// Check 9.
-pub fn type_lawful(e: IndexRecord) -> bool
-    ensures { λ r. ⌜ r ≡ typeLawful e ⌝ }
-{
-    let size = element_size(e.ty);
-    match size {
-        ElementSize::Bytes(_) => true,
-        ElementSize::ToZero => true,
-        ElementSize::Unlawful => false,
-    }
-}
 
 // Check 10.
 pub fn count_right(e: IndexRecord) -> bool

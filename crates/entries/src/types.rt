@@ -1,6 +1,6 @@
 // The table of types.
 ghost use mathlib.Core.Path.{_≡_};
-ghost use Rattle.entries.specs.Types.{elementSize};
+ghost use Rattle.entries.specs.Types.{elementSize, isLawful};
 
 // How far an element of a type reaches.
 pub enum ElementSize {
@@ -23,5 +23,16 @@ pub fn element_size(ty: u32) -> ElementSize
         8 => ElementSize::ToZero,
         9 => ElementSize::ToZero,
         _ => ElementSize::Unlawful,
+    }
+}
+
+// Whether the type of an element size is lawful (check 9).
+pub fn is_lawful(size: ElementSize) -> bool
+    ensures { λ r. ⌜ r ≡ isLawful size ⌝ }
+{
+    match size {
+        ElementSize::Bytes(_) => true,
+        ElementSize::ToZero => true,
+        ElementSize::Unlawful => false,
     }
 }

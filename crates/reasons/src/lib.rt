@@ -4,8 +4,10 @@ ghost use mathlib.Core.List.{[], _∷_};
 ghost use Prim.Native.Nat.{_/_, _≤_};
 ghost use lib.ListN.{length};
 ghost use Rattle.lists.specs.Lists.{entryOf, entriesOf};
-ghost use Rattle.reasons.specs.Reasons.{endsAt, dataExact, tagIn, tagsBefore, ownTags, entryReasons, entriesReasons, listReasons, sizeEntry, nameReasons, formReasons, reasons};
+ghost use Rattle.reasons.specs.Reasons.{endsAt, exactFor, tagIn, tagsBefore, ownTags, entryReasons, entriesReasons, listReasons, sizeEntry, nameReasons, formReasons, reasons};
 use entries::ElementSize;
+use entries::types::element_size;
+use entries::types::is_lawful;
 use format::HeaderRecord;
 use format::IndexRecord;
 use format::Verdict;
@@ -29,11 +31,10 @@ fn ends_at(run: Ending, end: usize) -> bool
     }
 }
 
-// Whether data is exactly what type and count say.
-fn data_exact(ty: u32, count: u32, bytes: &[u8]) -> bool
-    ensures { λ r. ⌜ r ≡ dataExact ty count (now (bytes .entry)) ⌝ }
+// Whether data is exactly `count` elements of a size.
+fn data_exact(size: ElementSize, count: u32, bytes: &[u8]) -> bool
+    ensures { λ r. ⌜ r ≡ exactFor size count (now (bytes .entry)) ⌝ }
 {
-    let size = entries::types::element_size(ty);
     match size {
         ElementSize::Bytes(n) => {
             let whole = n * count as usize;
@@ -69,13 +70,14 @@ fn entry_check(list: &[u8], own: bool, i: u32, e: ListRecord, bytes: &[u8]) -> V
         offset: StoreOffset::of(0),
         count: e.count,
     };
-    if !entries::type_lawful(record) {
+    let size = element_size(e.ty);
+    if !is_lawful(size) {
         return Verdict::Fail(32, 0);
     }
     if !entries::count_right(record) {
         return Verdict::Fail(32, 0);
     }
-    if !data_exact(e.ty, e.count, bytes) {
+    if !data_exact(size, e.count, bytes) {
         return Verdict::Fail(32, 0);
     }
     if is_repeated(list, own, i, e.tag) {
