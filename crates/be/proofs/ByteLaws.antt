@@ -1,11 +1,12 @@
 -- Bytes and parts at the end of a list: be16-past, be32-past, part-past, part-tail, part-inside. Parts: part-join,
--- length-part.
+-- length-part. A number behind a place: be32-drop.
 use Prim.Native.Nat.{ℕ, _+_, _-_, _≤_, _<_}
 use mathlib.Core.Path.{_≡_, sym, _∙_}
 use mathlib.Core.List.{List, [], _++_}
 use lib.ListN.{length, getD, take, drop, length-take, length-drop, List·getD-eq-default, drop-of-length-le}
-use lib.Seq.{take-nil, take-all, take-add, drop-drop}
+use lib.Seq.{take-nil, take-all, take-add, drop-drop, getD-drop}
 use native.Mathlib.Omega.{arith}
+use native.Mathlib.Nat.{add-assoc}
 use Rattle.be.specs.Numbers.{be16At, be32At}
 
 getD-past : (s : List ℕ) (at k : ℕ) → length s ≤ at → getD s (at + k) 0 ≡ 0
@@ -39,3 +40,8 @@ part-join s from a b = rw (take-add a b (drop from s), drop-drop a from s)
 pub length-part : (s : List ℕ) (from extent : ℕ) → from + extent ≤ length s
     → length (take extent (drop from s)) ≡ extent
 length-part s from extent h = simp (length-take, length-drop) (omega arith)
+
+-- a number of the bytes from a place on
+pub be32-drop : (s : List ℕ) (from at : ℕ) → be32At (drop from s) at ≡ be32At s (from + at)
+unfolding be32At
+be32-drop s from at = simp (getD-drop, add-assoc)

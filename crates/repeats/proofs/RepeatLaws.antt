@@ -1,15 +1,18 @@
--- Laws of `tagBefore` and `tagAmong`: a tag by its last byte (differs, joined), four records (four-first .. four-last), and
--- a turn of the loops over them, by how a tag was found (turn, ends; turn-is, ends-is; turn-4, ends-4; last-4, spent).
+-- Laws of `tagAmong`: a tag by its last byte (differs, joined), four records (low-first .. low-last, four-first .. four-last),
+-- a turn of the loops over them (turn, ends, spent; turn-4, turn-low-4, ends-4, last-4), and `tagBefore` as a search of the
+-- package from the index on (searched).
 use Prim.Native.Nat.{ℕ, zero, suc, _+_, _-_, _*_, _%_, _≤_, _<_}
 use mathlib.Core.Path.{_≡_, refl, sym, ap, _∙_}
 use mathlib.Core.List.{List}
 use mathlib.Core.Bool.{Bool, true, false, _||_}
-use lib.ListN.{getD}
+use lib.ListN.{length, getD, take, drop, length-drop}
+use lib.Seq.{take-all}
 use lib.Dec.{eqb}
 use native.Mathlib.Omega.{arith}
 use native.Mathlib.Nat.{add-zero}
 use borrow.Author.Tests.{eq-eqb, ne-eqb, eqb-false}
 use Rattle.be.specs.Numbers.{be32At}
+use Rattle.be.proofs.ByteLaws.{be32-drop}
 use Rattle.format.specs.declared.section.Section.{Section}
 use Rattle.format.specs.Places.{recordPlace}
 use Rattle.repeats.specs.Repeats.{lowAmong, tagAmong, tagBefore}
@@ -19,32 +22,25 @@ unfolding be32At
 low-byte s at tag q b = omega arith
 
 -- the last byte of a tag decides where it differs
-low-differs : (s : List ℕ) (at tag : ℕ) {low : ℕ} → low ≡ tag % 256 → getD s (at + 3) 0 < 256
+pub differs : (s : List ℕ) (at tag : ℕ) {low : ℕ} → low ≡ tag % 256 → getD s (at + 3) 0 < 256
     → (getD s (at + 3) 0 ≡ low → ⊥) → false ≡ eqb (be32At s at) tag
-low-differs s at tag m b h = sym (ne-eqb (be32At s at) tag (λ q. h (low-byte s at tag q b ∙ sym m)))
+differs s at tag m b h = sym (ne-eqb (be32At s at) tag (λ q. h (low-byte s at tag q b ∙ sym m)))
 
--- a tag n bytes behind a place, whose number is at
-module _ (s : List ℕ) (place n tag : ℕ) {at : ℕ} (e : at ≡ place) where
-  pub differs : {low : ℕ} → low ≡ tag % 256 → getD s (at + n + 3) 0 < 256 → (getD s (at + n + 3) 0 ≡ low → ⊥)
-      → false ≡ eqb (be32At s (place + n)) tag
-  differs m b h = rw (← e) (low-differs s (at + n) tag m b h)
+pub joined : (s : List ℕ) (at tag : ℕ) {r : ℕ}
+    → r ≡ getD s at 0 * 16777216 + getD s (at + 1) 0 * 65536 + getD s (at + 2) 0 * 256 + getD s (at + 3) 0
+    → eqb r tag ≡ eqb (be32At s at) tag
+unfolding be32At
+joined s at tag p = rw p
 
-  pub joined : {r : ℕ}
-      → r ≡ getD s (at + n) 0 * 16777216 + getD s (at + n + 1) 0 * 65536 + getD s (at + n + 2) 0 * 256 + getD s (at + n + 3) 0
-      → eqb r tag ≡ eqb (be32At s (place + n)) tag
-  unfolding be32At
-  joined p = rw (← e, p)
+step : (s : List ℕ) (tag k : ℕ) → tagAmong s (suc k) tag ≡ (eqb (be32At s (16 * k)) tag || tagAmong s k tag)
+unfolding tagAmong
+step s tag k = refl
 
-step : (s : List ℕ) (section : Section) (tag k : ℕ)
-    → tagBefore s section (suc k) tag ≡ (eqb (be32At s (recordPlace section k)) tag || tagBefore s section k tag)
-unfolding tagBefore
-step s section tag k = refl
-
-among-4 : (s : List ℕ) (at tag : ℕ) → tagAmong s at 4 tag
+among-4 : (s : List ℕ) (at tag : ℕ) → tagAmong (drop at s) 4 tag
     ≡ (eqb (be32At s (at + 48)) tag || (eqb (be32At s (at + 32)) tag
     || (eqb (be32At s (at + 16)) tag || (eqb (be32At s (at + 0)) tag || false))))
 unfolding tagAmong
-among-4 s at tag = refl
+among-4 s at tag = rw (be32-drop s at 48, be32-drop s at 32, be32-drop s at 16, be32-drop s at 0)
 
 or-false : (b : Bool) → (b || false) ≡ b
 or-false true = refl
@@ -55,40 +51,37 @@ or-assoc true b c = refl
 or-assoc false b c = refl
 
 -- n records from record k on, and those before it
-back : (s : List ℕ) (section : Section) (tag k n : ℕ)
-    → tagBefore s section (k + n) tag ≡ (tagAmong s (recordPlace section k) n tag || tagBefore s section k tag)
+back : (s : List ℕ) (tag k n : ℕ) → tagAmong s (k + n) tag ≡ (tagAmong (drop (16 * k) s) n tag || tagAmong s k tag)
 unfolding tagAmong
-back s section tag k zero = rw add-zero
-back s section tag k (suc n) =
+back s tag k zero = rw add-zero
+back s tag k (suc n) =
     let j : k + suc n ≡ suc (k + n) = omega arith in
-    let at : recordPlace section (k + n) ≡ recordPlace section k + 16 * n = omega arith in
-    ap (λ (m : ℕ). tagBefore s section m tag) j ∙ step s section tag (k + n)
-    ∙ rw (at, back s section tag k n) (or-assoc
-    (eqb (be32At s (recordPlace section k + 16 * n)) tag)
-    (tagAmong s (recordPlace section k) n tag)
-    (tagBefore s section k tag))
+    let at : 16 * (k + n) ≡ 16 * k + 16 * n = omega arith in
+    ap (λ (m : ℕ). tagAmong s m tag) j ∙ step s tag (k + n)
+    ∙ rw (at, ← be32-drop s (16 * k) (16 * n), back s tag k n)
+    (or-assoc (eqb (be32At (drop (16 * k) s) (16 * n)) tag) (tagAmong (drop (16 * k) s) n tag) (tagAmong s k tag))
 
 -- the four last bytes, for each way through the tests of them
-module _ (s : List ℕ) (place low : ℕ) {at : ℕ} (e : at ≡ place) where
-  pub low-first : getD s (at + 3) 0 ≡ low → true ≡ lowAmong s place low
+module _ (s : List ℕ) (at low : ℕ) where
+  pub low-first : getD s (at + 3) 0 ≡ low → true ≡ lowAmong s at low
   unfolding lowAmong
-  low-first h = rw (← e, eq-eqb (getD s (at + 3) 0) low h)
+  low-first h = rw (eq-eqb (getD s (at + 3) 0) low h)
 
   module _ (h : getD s (at + 3) 0 ≡ low → ⊥) where
-    pub low-second : getD s (at + 19) 0 ≡ low → true ≡ lowAmong s place low
+    pub low-second : getD s (at + 19) 0 ≡ low → true ≡ lowAmong s at low
     unfolding lowAmong
-    low-second k = rw (← e, ne-eqb (getD s (at + 3) 0) low h, eq-eqb (getD s (at + 19) 0) low k)
+    low-second k = rw (ne-eqb (getD s (at + 3) 0) low h, eq-eqb (getD s (at + 19) 0) low k)
 
     module _ (k : getD s (at + 19) 0 ≡ low → ⊥) where
-      pub low-third : getD s (at + 35) 0 ≡ low → true ≡ lowAmong s place low
+      pub low-third : getD s (at + 35) 0 ≡ low → true ≡ lowAmong s at low
       unfolding lowAmong
       low-third m =
-          rw (← e, ne-eqb (getD s (at + 3) 0) low h, ne-eqb (getD s (at + 19) 0) low k, eq-eqb (getD s (at + 35) 0) low m)
+          rw (ne-eqb (getD s (at + 3) 0) low h, ne-eqb (getD s (at + 19) 0) low k, eq-eqb (getD s (at + 35) 0) low m)
 
-      pub low-last : (getD s (at + 35) 0 ≡ low → ⊥) → eqb (getD s (at + 51) 0) low ≡ lowAmong s place low
+      pub low-last : (getD s (at + 35) 0 ≡ low → ⊥) → eqb (getD s (at + 51) 0) low ≡ lowAmong s at low
       unfolding lowAmong
       low-last m =
-          rw (← e, ne-eqb (getD s (at + 3) 0) low h, ne-eqb (getD s (at + 19) 0) low k, ne-eqb (getD s (at + 35) 0) low m)
+          rw (ne-eqb (getD s (at + 3) 0) low h, ne-eqb (getD s (at + 19) 0) low k, ne-eqb (getD s (at + 35) 0) low m)
 
 -- where none of the four has the last byte, none has the tag
 or-parts : (a b c d : Bool) → (a || (b || (c || d))) ≡ false → (a ≡ false) × ((b ≡ false) × ((c ≡ false) × (d ≡ false)))
@@ -100,22 +93,22 @@ or-parts false false false false h = (refl, (refl, (refl, refl)))
 
 -- the four tests, for each way through them
 module _ (s : List ℕ) (at tag : ℕ) {a : Bool} (p : a ≡ eqb (be32At s (at + 48)) tag) where
-  pub four-first : a ≡ true → true ≡ tagAmong s at 4 tag
+  pub four-first : a ≡ true → true ≡ tagAmong (drop at s) 4 tag
   four-first h = sym (among-4 s at tag ∙ rw (← p, h))
 
   module _ {b : Bool} (q : b ≡ eqb (be32At s (at + 32)) tag) (h : a ≡ false) where
-    pub four-second : b ≡ true → true ≡ tagAmong s at 4 tag
+    pub four-second : b ≡ true → true ≡ tagAmong (drop at s) 4 tag
     four-second k = sym (among-4 s at tag ∙ rw (← p, ← q, h, k))
 
     module _ {c : Bool} (r : c ≡ eqb (be32At s (at + 16)) tag) (k : b ≡ false) where
-      pub four-third : c ≡ true → true ≡ tagAmong s at 4 tag
+      pub four-third : c ≡ true → true ≡ tagAmong (drop at s) 4 tag
       four-third m = sym (among-4 s at tag ∙ rw (← p, ← q, ← r, h, k, m))
 
-      pub four-last : {d : Bool} → d ≡ eqb (be32At s (at + 0)) tag → c ≡ false → d ≡ tagAmong s at 4 tag
-      four-last {d} w m = sym (among-4 s at tag ∙ rw (← p, ← q, ← r, h, k, m, ← w) (or-false d))
+      pub four-last : {d : Bool} → d ≡ eqb (be32At s at) tag → c ≡ false → d ≡ tagAmong (drop at s) 4 tag
+      four-last {d} w m = sym (among-4 s at tag ∙ rw (← p, ← q, ← r, h, k, m, add-zero, ← w) (or-false d))
 
 no-tag : (s : List ℕ) (at tag low : ℕ) → low ≡ tag % 256 → ((n : ℕ) → getD s n 0 < 256) → lowAmong s at low ≡ false
-    → tagAmong s at 4 tag ≡ false
+    → tagAmong (drop at s) 4 tag ≡ false
 unfolding lowAmong
 no-tag s at tag low m b h =
     let q =
@@ -128,7 +121,7 @@ no-tag s at tag low m b h =
     other : (n : ℕ) → eqb (getD s (at + (n + 3)) 0) low ≡ false → eqb (be32At s (at + n)) tag ≡ false
     other n e =
         let z : at + (n + 3) ≡ at + n + 3 = omega arith in
-        sym (low-differs s (at + n) tag m (b (at + n + 3)) (λ r. eqb-false (getD s (at + (n + 3)) 0) low e (rw z r)))
+        sym (differs s (at + n) tag m (b (at + n + 3)) (λ r. eqb-false (getD s (at + (n + 3)) 0) low e (rw z r)))
 
 -- what holds of a part of the records between two that agree
 between : (a b v m : Bool) → v ≡ (a || m) → m ≡ (b || v) → m ≡ v
@@ -139,72 +132,66 @@ between a true v m p q = q ∙ sym (p ∙ rw q (or-true a))
     or-true false = refl
 between a false v m p q = q
 
--- one of the first k records, in the shape of what is known in a turn: v is what the search began with, r the tag read
-module _ (s : List ℕ) (section : Section) (tag k : ℕ) {v : Bool} (inv : v ≡ tagBefore s section k tag) where
-  module _ {r : ℕ} (e : r ≡ be32At s (recordPlace section (k - 1) + 0)) (l : 0 < k) where
-    read : v ≡ (eqb r tag || tagBefore s section (k - 1) tag)
+-- one of the first k records, in the shape of what is known in a turn: v is what the search began with, r what was read
+module _ (s : List ℕ) (tag k : ℕ) {v : Bool} (inv : v ≡ tagAmong s k tag) where
+  module _ {r : ℕ} (e : r ≡ be32At s (16 * (k - 1))) (l : 0 < k) where
+    read : v ≡ (eqb r tag || tagAmong s (k - 1) tag)
     read =
         let j : k ≡ suc (k - 1) = omega arith in
-        inv ∙ ap (λ (n : ℕ). tagBefore s section n tag) j ∙ step s section tag (k - 1) ∙ rw (e, add-zero)
+        inv ∙ ap (λ (n : ℕ). tagAmong s n tag) j ∙ step s tag (k - 1) ∙ rw e
 
-    pub turn : (r ≡ tag → ⊥) → v ≡ tagBefore s section (k - 1) tag
+    pub turn : (r ≡ tag → ⊥) → v ≡ tagAmong s (k - 1) tag
     turn h = read ∙ rw (ne-eqb r tag h)
 
     pub ends : r ≡ tag → true ≡ v
     ends h = sym (read ∙ rw (eq-eqb r tag h))
 
-  -- whether record k - 1 has the tag, as it was found at its place
-  module _ {at : ℕ} {r : Bool} (d : at ≡ recordPlace section (k - 1)) (p : r ≡ eqb (be32At s (at + 0)) tag) (l : 0 < k) where
-    found : v ≡ (r || tagBefore s section (k - 1) tag)
+  -- whether one of the four before k has it
+  module _ {r : Bool} (p : r ≡ tagAmong (drop (16 * (k - 4)) s) 4 tag) (l : 4 ≤ k) where
+    found : v ≡ (r || tagAmong s (k - 4) tag)
     found =
-        let j : k ≡ suc (k - 1) = omega arith in
-        inv ∙ ap (λ (n : ℕ). tagBefore s section n tag) j ∙ step s section tag (k - 1) ∙ rw (p, d, add-zero)
-
-    pub turn-is : r ≡ false → v ≡ tagBefore s section (k - 1) tag
-    turn-is h = found ∙ rw h
-
-    pub ends-is : r ≡ true → true ≡ v
-    ends-is h = sym (found ∙ rw h)
-
-  -- and whether one of the four before k has it
-  module _ {at : ℕ} {r : Bool} (d : at ≡ recordPlace section (k - 4)) (p : r ≡ tagAmong s at 4 tag) (l : 4 ≤ k) where
-    found-4 : v ≡ (r || tagBefore s section (k - 4) tag)
-    found-4 =
         let j : k ≡ k - 4 + 4 = omega arith in
-        inv ∙ ap (λ (n : ℕ). tagBefore s section n tag) j ∙ back s section tag (k - 4) 4 ∙ rw (p, d)
+        inv ∙ ap (λ (n : ℕ). tagAmong s n tag) j ∙ back s tag (k - 4) 4 ∙ rw p
 
-    pub turn-4 : r ≡ false → v ≡ tagBefore s section (k - 4) tag
-    turn-4 h = found-4 ∙ rw h
+    pub turn-4 : r ≡ false → v ≡ tagAmong s (k - 4) tag
+    turn-4 h = found ∙ rw h
 
     pub ends-4 : r ≡ true → true ≡ v
-    ends-4 h = sym (found-4 ∙ rw h)
+    ends-4 h = sym (found ∙ rw h)
 
   -- none of the four before k has the last byte
-  pub turn-low-4 : {at low : ℕ} {r : Bool} → at ≡ recordPlace section (k - 4) → low ≡ tag % 256
-      → ((n : ℕ) → getD s n 0 < 256) → r ≡ lowAmong s at low → r ≡ false → 4 ≤ k → v ≡ tagBefore s section (k - 4) tag
-  turn-low-4 {at} {low} d m b p h l = turn-4 d refl l (no-tag s at tag low m b (sym p ∙ h))
+  pub turn-low-4 : {low : ℕ} {r : Bool} → low ≡ tag % 256 → ((n : ℕ) → getD s n 0 < 256)
+      → r ≡ lowAmong s (16 * (k - 4)) low → r ≡ false → 4 ≤ k → v ≡ tagAmong s (k - 4) tag
+  turn-low-4 {low} m b p h l = turn-4 refl l (no-tag s (16 * (k - 4)) tag low m b (sym p ∙ h))
 
   pub spent : k ≤ 0 → false ≡ v
-  unfolding tagBefore
+  unfolding tagAmong
   spent l = let j : k ≡ 0 = omega arith in sym (rw j at inv)
 
-first : (s : List ℕ) (section : Section) (tag n : ℕ) → tagBefore s section n tag ≡ tagAmong s (recordPlace section 0) n tag
-unfolding tagBefore
-first s section tag n =
-    let z : n ≡ 0 + n = omega arith in
-    ap (λ (m : ℕ). tagBefore s section m tag) z ∙ back s section tag 0 n ∙ or-false _
-
 -- fewer than four are left: the first four decide
-pub last-4 : (s : List ℕ) (section : Section) (tag i k : ℕ) {at : ℕ} {r : Bool}
-    → tagBefore s section i tag ≡ tagBefore s section k tag → k < 4 → 4 ≤ i → at ≡ recordPlace section 0
-    → r ≡ tagAmong s at 4 tag → r ≡ tagBefore s section i tag
-last-4 s section tag i k {at} {r} inv l h d p =
-    let j : i ≡ 4 + (i - 4) = omega arith in
+pub last-4 : (s : List ℕ) (tag n k : ℕ) {r : Bool} → tagAmong s n tag ≡ tagAmong s k tag → k < 4 → 4 ≤ n
+    → r ≡ tagAmong (drop 0 s) 4 tag → r ≡ tagAmong s n tag
+last-4 s tag n k inv l h p =
+    let j : n ≡ 4 + (n - 4) = omega arith in
     let g : 4 ≡ k + (4 - k) = omega arith in
-    let four : r ≡ tagBefore s section 4 tag = p ∙ rw d (sym (first s section tag 4)) in
-    let more = ap (λ (n : ℕ). tagBefore s section n tag) j ∙ back s section tag 4 (i - 4) in
+    let more = ap (λ (m : ℕ). tagAmong s m tag) j ∙ back s tag 4 (n - 4) in
     let fewer =
-    ap (λ (n : ℕ). tagBefore s section n tag) g ∙ back s section tag k (4 - k)
-    ∙ ap (λ (b : Bool). tagAmong s (recordPlace section k) (4 - k) tag || b) (sym inv)
+    ap (λ (m : ℕ). tagAmong s m tag) g ∙ back s tag k (4 - k)
+    ∙ ap (λ (b : Bool). tagAmong (drop (16 * k) s) (4 - k) tag || b) (sym inv)
     in
-    four ∙ between (tagAmong s (recordPlace section 4) (i - 4) tag) (tagAmong s (recordPlace section k) (4 - k) tag) _ _ more fewer
+    p ∙ between (tagAmong (drop 64 s) (n - 4) tag) (tagAmong (drop (16 * k) s) (4 - k) tag) _ _ more fewer
+
+-- the records of a structure, from its first one on
+before-among : (s : List ℕ) (section : Section) (tag i : ℕ)
+    → tagBefore s section i tag ≡ tagAmong (drop (recordPlace section 0) s) i tag
+unfolding tagBefore tagAmong
+before-among s section tag zero = refl
+before-among s section tag (suc i) =
+    let at : recordPlace section i ≡ recordPlace section 0 + 16 * i = omega arith in
+    rw (at, be32-drop s (recordPlace section 0) (16 * i), before-among s section tag i)
+
+pub searched : (s : List ℕ) (section : Section) (tag i : ℕ) {at : ℕ} {part : List ℕ} {r : Bool} → at ≡ recordPlace section 0
+    → part ≡ take (length s) (drop at s) → r ≡ tagAmong part i tag → r ≡ tagBefore s section i tag
+searched s section tag i {at} d p h =
+    let n = length-drop at s in
+    h ∙ rw (p, take-all (length s) (drop at s) (omega arith), d) (sym (before-among s section tag i))

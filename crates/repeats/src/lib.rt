@@ -1,21 +1,18 @@
-// A tag that occurs twice in one structure: check 13.
+// A tag that occurs twice: among records of 16 bytes, and in one structure (check 13).
 ghost use mathlib.Core.Path.{_≡_};
-ghost use Prim.Native.Nat.{_+_, _%_, _≤_};
-ghost use lib.ListN.{length};
+ghost use Prim.Native.Nat.{_+_, _*_, _%_, _≤_};
+ghost use lib.ListN.{length, drop};
 ghost use lib.Dec.{eqb};
 ghost use Rattle.be.specs.Numbers.{be32At};
-ghost use Rattle.format.specs.Places.{recordPlace};
 ghost use Rattle.repeats.specs.Repeats.{lowAmong, tagAmong, tagBefore};
 use format::IndexRecord;
 use format::Section;
-use places::FileOffset;
 
-// Whether the record `n` bytes behind a place has the tag, whose last byte is `low`. Most tags differ in it.
-fn tag_is(s: &[u8], place: FileOffset, n: usize, low: u8, tag: u32) -> bool
-    requires { ⌜ (place .0 + n + 4 ≤ length (now s)) × (low ≡ tag % 256) ⌝ }
-    ensures { λ r. ⌜ r ≡ eqb (be32At (now (s .entry)) (place .0 + n)) tag ⌝ }
+// Whether the record at a place has the tag, whose last byte is `low`. Most tags differ in it.
+fn tag_is(s: &[u8], at: usize, low: u8, tag: u32) -> bool
+    requires { ⌜ (at + 4 ≤ length (now s)) × (low ≡ tag % 256) ⌝ }
+    ensures { λ r. ⌜ r ≡ eqb (be32At (now (s .entry)) at) tag ⌝ }
 {
-    let at = place.get() + n;
     if s[at + 3] != low {
         return false;
     }
@@ -23,11 +20,10 @@ fn tag_is(s: &[u8], place: FileOffset, n: usize, low: u8, tag: u32) -> bool
 }
 
 // Whether the tag of one of the four records from a place on has the last byte.
-fn low_in_4(s: &[u8], place: FileOffset, low: u8) -> bool
-    requires { ⌜ place .0 + 64 ≤ length (now s) ⌝ }
-    ensures { λ r. ⌜ r ≡ lowAmong (now (s .entry)) (place .0) low ⌝ }
+fn low_in_4(s: &[u8], at: usize, low: u8) -> bool
+    requires { ⌜ at + 64 ≤ length (now s) ⌝ }
+    ensures { λ r. ⌜ r ≡ lowAmong (now (s .entry)) at low ⌝ }
 {
-    let at = place.get();
     if s[at + 3] == low {
         return true;
     }
@@ -41,83 +37,72 @@ fn low_in_4(s: &[u8], place: FileOffset, low: u8) -> bool
 }
 
 // Whether one of the four records from a place on has the tag.
-fn tag_in_4(s: &[u8], place: FileOffset, low: u8, tag: u32) -> bool
-    requires { ⌜ (place .0 + 64 ≤ length (now s)) × (low ≡ tag % 256) ⌝ }
-    ensures { λ r. ⌜ r ≡ tagAmong (now (s .entry)) (place .0) 4 tag ⌝ }
+fn tag_in_4(s: &[u8], at: usize, low: u8, tag: u32) -> bool
+    requires { ⌜ (at + 64 ≤ length (now s)) × (low ≡ tag % 256) ⌝ }
+    ensures { λ r. ⌜ r ≡ tagAmong (drop at (now (s .entry))) 4 tag ⌝ }
 {
-    if tag_is(s, place, 48, low, tag) {
+    if tag_is(s, at + 48, low, tag) {
         return true;
     }
-    if tag_is(s, place, 32, low, tag) {
+    if tag_is(s, at + 32, low, tag) {
         return true;
     }
-    if tag_is(s, place, 16, low, tag) {
+    if tag_is(s, at + 16, low, tag) {
         return true;
     }
-    tag_is(s, place, 0, low, tag)
+    tag_is(s, at, low, tag)
 }
 
-// Whether one of the first `i` records has the tag (check 13), in a slice that may end before them.
-fn tag_before_cut(s: &[u8], section: Section, i: u32, tag: u32) -> bool
-    ensures { λ r. ⌜ r ≡ tagBefore (now (s .entry)) section i tag ⌝ }
-{
-    let mut k = i;
-    while 0 < k {
-        k -= 1;
-        if section.number(s, i, k, IndexRecord::TAG) == tag {
-            return true;
-        }
-    }
-    false
-}
-
-// The same in a slice that has them.
-fn tag_before_near(s: &[u8], section: Section, i: u32, tag: u32) -> bool
-    requires { ⌜ recordPlace section i ≤ length (now s) ⌝ }
-    ensures { λ r. ⌜ r ≡ tagBefore (now (s .entry)) section i tag ⌝ }
+// Whether one of the first `n` records has the tag, in a slice that has them: by fours, and the first four stand for those
+// that are left.
+fn among_by_4(s: &[u8], n: u32, tag: u32) -> bool
+    requires { ⌜ (4 ≤ n) × (16 * n ≤ length (now s)) ⌝ }
+    ensures { λ r. ⌜ r ≡ tagAmong (now (s .entry)) n tag ⌝ }
 {
     let low = (tag % 256) as u8;
-    let mut k = i;
-    while 0 < k {
-        k -= 1;
-        let place = section.index_record(k);
-        if tag_is(s, place, 0, low, tag) {
-            return true;
-        }
-    }
-    false
-}
-
-// The same by fours, where there are four; the first four stand for those that are left.
-fn tag_before_by_4(s: &[u8], section: Section, i: u32, tag: u32) -> bool
-    requires { ⌜ (4 ≤ i) × (recordPlace section i ≤ length (now s)) ⌝ }
-    ensures { λ r. ⌜ r ≡ tagBefore (now (s .entry)) section i tag ⌝ }
-{
-    let low = (tag % 256) as u8;
-    let mut k = i;
+    let mut k = n;
     while 4 <= k {
         k -= 4;
-        let place = section.index_record(k);
-        if low_in_4(s, place, low) {
-            if tag_in_4(s, place, low, tag) {
+        let at = IndexRecord::SIZE * k as usize;
+        if low_in_4(s, at, low) {
+            if tag_in_4(s, at, low, tag) {
                 return true;
             }
         }
     }
-    let first = section.index_record(0);
-    tag_in_4(s, first, low, tag)
+    tag_in_4(s, 0, low, tag)
 }
 
-// Whether one of the first `i` records has the tag.
+// The same one by one, in any slice.
+fn among_by_1(s: &[u8], n: u32, tag: u32) -> bool
+    ensures { λ r. ⌜ r ≡ tagAmong (now (s .entry)) n tag ⌝ }
+{
+    let mut k = n;
+    while 0 < k {
+        k -= 1;
+        if be::be32(s, IndexRecord::SIZE * k as usize) == tag {
+            return true;
+        }
+    }
+    false
+}
+
+// Whether one of the first `n` records of a slice has the tag. A byte past the end reads as 0.
+pub fn tag_among(s: &[u8], n: u32, tag: u32) -> bool
+    ensures { λ r. ⌜ r ≡ tagAmong (now (s .entry)) n tag ⌝ }
+{
+    if 4 <= n {
+        if IndexRecord::SIZE * n as usize <= s.len() {
+            return among_by_4(s, n, tag);
+        }
+    }
+    among_by_1(s, n, tag)
+}
+
+// Whether one of the first `i` records of a structure has the tag.
 pub fn tag_before(s: &[u8], section: Section, i: u32, tag: u32) -> bool
     ensures { λ r. ⌜ r ≡ tagBefore (now (s .entry)) section i tag ⌝ }
 {
-    let end = section.index_record(i);
-    if s.len() < end.get() {
-        return tag_before_cut(s, section, i, tag);
-    }
-    if i < 4 {
-        return tag_before_near(s, section, i, tag);
-    }
-    tag_before_by_4(s, section, i, tag)
+    let first = section.index_record(0);
+    tag_among(first.part(s, s.len()), i, tag)
 }

@@ -1,11 +1,8 @@
 -- Test by test. Assumes nothing.
-use Rattle.repeats.proofs.RepeatLaws as laws
 use borrow.Author.Needs.{needs}
+use Rattle.repeats.proofs.RepeatLaws as laws
 use Rattle.repeats.proofs.low_in_4.Statement.{statement}
 use Rattle.repeats.proofs.low_in_4.Tie as tie
-
-get-requires : tie.Need-get-requires
-get-requires c κs = search needs
 
 add-if1 : tie.Need-add-if1
 add-if1 c = search needs
@@ -47,7 +44,6 @@ pub low-in-4-spec : {M : Type 1} → statement M
 low-in-4-spec =
     tie.close
     (tie.spec
-    get-requires
     add-if1
     shared-slice-read-if1
     returns

@@ -1,16 +1,10 @@
 -- By the last byte, then by all four. Assumes nothing.
 use Prim.Native.Nat.{_+_}
 use native.Mathlib.Omega.{arith}
-use Rattle.repeats.proofs.RepeatLaws as laws
 use borrow.Author.Needs.{needs}
+use Rattle.repeats.proofs.RepeatLaws as laws
 use Rattle.repeats.proofs.tag_is.Statement.{statement}
 use Rattle.repeats.proofs.tag_is.Tie as tie
-
-get-requires : tie.Need-get-requires
-get-requires c κs = search needs
-
-add-at : tie.Need-add-at
-add-at c = search needs
 
 add-if1 : tie.Need-add-if1
 add-if1 c = search needs
@@ -20,11 +14,10 @@ shared-slice-read-if1 c = search needs
 
 returns : tie.Need-returns
 returns c =
-    let at-get = c .before .before in
-    let known = at-get .before in
+    let known = c .before .before in
     let start = known .before in
-    laws.differs _ (start .args .place .0) (start .args .n) _ (at-get .get .ensures) (start .pre .1)
-    (omega (arith, known .shared-slice-known .given (at-get .get .result + start .args .n + 3))) (c .if1 .taken)
+    laws.differs _ (start .args .at) _ (start .pre .1) (omega (arith, known .shared-slice-known .given (start .args .at + 3)))
+    (c .if1 .taken)
 
 shared-slice-read-join32 : tie.Need-shared-slice-read-join32
 shared-slice-read-join32 c = search needs
@@ -57,8 +50,6 @@ pub tag-is-spec : {M : Type 1} → statement M
 tag-is-spec =
     tie.close
     (tie.spec
-    get-requires
-    add-at
     add-if1
     shared-slice-read-if1
     returns

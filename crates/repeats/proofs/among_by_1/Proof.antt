@@ -1,17 +1,17 @@
 -- The records that are left decide. Assumes nothing.
-use borrow.Author.Needs.{needs}
 use Prim.Native.Nat.{_≤_}
 use mathlib.Core.Path.{_≡_, refl}
-use Rattle.repeats.specs.Repeats.{tagBefore}
+use borrow.Author.Needs.{needs}
+use Rattle.repeats.specs.Repeats.{tagAmong}
 use Rattle.repeats.proofs.RepeatLaws as laws
-use Rattle.repeats.proofs.tag_before_cut.Statement.{statement}
-use Rattle.repeats.proofs.tag_before_cut.Tie as tie
+use Rattle.repeats.proofs.among_by_1.Statement.{statement}
+use Rattle.repeats.proofs.among_by_1.Tie as tie
 
 abbrev Inv-loop : tie.InvT-loop
-Inv-loop s section i tag k₀ k = (k ≤ i) × (tagBefore s section i tag ≡ tagBefore s section k tag)
+Inv-loop s n tag k₀ k = (k ≤ n) × (tagAmong s n tag ≡ tagAmong s k tag)
 
 abbrev μ-loop : tie.MeasureT-loop
-μ-loop s section i tag k₀ k = k
+μ-loop s n tag k₀ k = k
 
 loop-holds : tie.Need-loop-holds Inv-loop μ-loop
 loop-holds c = (search needs, refl)
@@ -19,8 +19,14 @@ loop-holds c = (search needs, refl)
 sub-k : tie.Need-sub-k Inv-loop μ-loop
 sub-k c = search needs
 
-number-requires : tie.Need-number-requires Inv-loop μ-loop
-number-requires c κs = search needs
+cast-be32 : tie.Need-cast-be32 Inv-loop μ-loop
+cast-be32 c = search needs
+
+mul-be32 : tie.Need-mul-be32 Inv-loop μ-loop
+mul-be32 c = search needs
+
+be32-requires : tie.Need-be32-requires Inv-loop μ-loop
+be32-requires c κs = search needs
 
 returns : tie.Need-returns Inv-loop μ-loop
 returns c = search laws.ends
@@ -34,15 +40,17 @@ loop-again c = (search needs, search laws.turn)
 returns-2 : tie.Need-returns-2 Inv-loop μ-loop
 returns-2 c = search laws.spent
 
-pub tag-before-cut-spec : {M : Type 1} → statement M
-tag-before-cut-spec =
+pub among-by-1-spec : {M : Type 1} → statement M
+among-by-1-spec =
     tie.close
     (tie.spec
     Inv-loop
     μ-loop
     loop-holds
     sub-k
-    number-requires
+    cast-be32
+    mul-be32
+    be32-requires
     returns
     loop-less
     loop-again
