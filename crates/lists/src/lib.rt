@@ -54,16 +54,16 @@ pub fn is_whole(list: &[u8]) -> bool
 pub fn sizes_meet(list: &[u8], row: &[u8]) -> bool
     ensures { λ r. ⌜ r ≡ sizesMeet (now (list .entry)) (now (row .entry)) ⌝ }
 {
-    let n = list.len();
+    let n = list.len() / ListRecord::SIZE;
     let mut left = row.len();
-    let mut at = ListRecord::SIZE;
-    while at <= n {
-        let size = be::be32(list, at - 4) as usize;
+    let mut i = 0;
+    while i < n {
+        let size = be::be32(list, ListRecord::SIZE * i + 12) as usize;
         if left < size {
             return false;
         }
         left -= size;
-        at += ListRecord::SIZE;
+        i += 1;
     }
     left == 0
 }

@@ -55,13 +55,15 @@ pub fn four(out: &mut [u8], at: usize, a: u8, b: u8, c: u8, d: u8)
     ensures { λ r. ⌜ now (out .exit) ≡ sets (now (out .entry)) at (a ∷ b ∷ c ∷ d ∷ []) ⌝ }
 {
     let len = out.len();
-    if 4 <= len {
-        if at <= len - 4 {
-            four_within(out, at, a, b, c, d);
-            return;
-        }
+    if len < 4 {
+        four_cut(out, at, a, b, c);
+        return;
     }
-    four_cut(out, at, a, b, c);
+    if len - 4 < at {
+        four_cut(out, at, a, b, c);
+        return;
+    }
+    four_within(out, at, a, b, c, d);
 }
 
 // Puts a number at a place.

@@ -97,7 +97,8 @@ fn put_package(
 {
     let first = sizes.signature as usize;
     let start = sizes.start as usize;
-    let end = Lead::SIZE + (HeaderRecord::SIZE + IndexRecord::SIZE * (lists::count(signature) + 1) + first);
+    let end = Lead::SIZE
+        + (HeaderRecord::SIZE + IndexRecord::SIZE * (lists::count(signature) + 1) + first);
     let number = sizes.length - sizes.start;
     layout::put_lead(out, name);
     structures::put_signature(out, Lead::SIZE, signature, signature_data, first, number);
@@ -124,7 +125,15 @@ pub fn write(
     match found {
         Plan::Refused(number, place) => Answer::Refused(number, place),
         Plan::Fits(sizes) => {
-            put_package(out, name, signature, signature_data, header, header_data, sizes);
+            put_package(
+                out,
+                name,
+                signature,
+                signature_data,
+                header,
+                header_data,
+                sizes,
+            );
             Answer::Done(sizes.length)
         }
     }

@@ -1,0 +1,108 @@
+-- Stores in a buffer (out-of-room, sets-append, sets-past, behind, at-front); four of them (four-stores, cut-1 to cut-4); a copy
+-- and a fill, turn by turn (copy-turn, copied, fill-turn, filled); the length of what is put (length-bytes, length-four).
+use Prim.Native.Nat.{ℕ, zero, suc, _+_, _-_, _*_, _/_, _%_, _≤_, _<_}
+use mathlib.Core.Path.{_≡_, refl, sym, ap, _∙_}
+use mathlib.Core.List.{List, [], _∷_, _++_}
+use lib.ListN.{length, getD, set, drop, drop-of-length-le, length-set, length-drop, length-replicate}
+use lib.Seq.{sets, sets-eq, set-out, drop-cons}
+use native.Mathlib.Nat.{add-zero}
+use native.Mathlib.Numerals.{add-one}
+use native.Mathlib.Omega.{arith}
+use Rattle.put.specs.Puts.{bytesOf, fourBytes, zeros}
+
+pub out-of-room : (out : List ℕ) (i n : ℕ) → length out ≤ i → out ≡ set out i n
+out-of-room out i n h = sym (set-out out i n h)
+
+pub sets-append : (out : List ℕ) (i : ℕ) (xs ys : List ℕ)
+    → sets out i (xs ++ ys) ≡ sets (sets out i xs) (i + length xs) ys
+sets-append out i [] ys = rw add-zero
+sets-append out i (x ∷ xs) ys =
+    let e : i + suc (length xs) ≡ suc i + length xs = omega arith in
+    rw e (sets-append (set out i x) (suc i) xs ys)
+
+pub sets-past : (out : List ℕ) (i : ℕ) (xs : List ℕ) → length out ≤ i → sets out i xs ≡ out
+sets-past out i [] h = refl
+sets-past out i (x ∷ xs) h = let e = set-out out i x h in rw e (sets-past out (suc i) xs (omega arith))
+
+-- what is put behind what was put
+pub behind : (out : List ℕ) {o₁ o₂ : List ℕ} (at : ℕ) {next : ℕ} (xs ys : List ℕ) → o₁ ≡ sets out at xs → o₂ ≡ sets o₁ next ys
+    → next ≡ at + length xs → o₂ ≡ sets out at (xs ++ ys)
+behind out at xs ys p q e = q ∙ rw (p, e) (sym (sets-append out at xs ys))
+
+pub at-front : (out vs : List ℕ) → length vs ≤ length out → sets out 0 vs ≡ vs ++ drop (length vs) out
+at-front out vs h = let e : 0 + length vs ≡ length vs = omega arith in sets-eq vs out 0 (omega arith) ∙ rw e
+
+-- four bytes
+pub four-stores : (out : List ℕ) (at a b c d : ℕ) {o₁ o₂ o₃ o₄ : List ℕ} → o₁ ≡ set out at a → o₂ ≡ set o₁ (at + 1) b
+    → o₃ ≡ set o₂ (at + 2) c → o₄ ≡ set o₃ (at + 3) d → o₄ ≡ sets out at (a ∷ b ∷ c ∷ d ∷ [])
+four-stores out at a b c d p q r s =
+    let f : at + 2 ≡ suc (suc at) = omega arith in
+    let g : at + 3 ≡ suc (suc (suc at)) = omega arith in
+    s ∙ rw (r, q, p, g, f, add-one)
+
+pub three-stores : (out : List ℕ) (at a b c : ℕ) {o₁ o₂ o₃ : List ℕ} → o₁ ≡ set out at a → o₂ ≡ set o₁ (at + 1) b
+    → o₃ ≡ set o₂ (at + 2) c → o₃ ≡ sets out at (a ∷ b ∷ c ∷ [])
+three-stores out at a b c p q r = let f : at + 2 ≡ suc (suc at) = omega arith in r ∙ rw (q, p, f, add-one)
+
+-- what the buffer has no room for
+pub cut-none : (out : List ℕ) (at : ℕ) (xs : List ℕ) → length out ≤ at → out ≡ sets out at xs
+cut-none out at xs h = sym (sets-past out at xs h)
+
+pub cut-one : (out : List ℕ) (at a : ℕ) (xs : List ℕ) {o : List ℕ} → o ≡ set out at a → length out - at < 2 → o ≡ sets out at (a ∷ xs)
+cut-one out at a xs p h =
+    let k = length-set out at a in
+    p ∙ sym (sets-past (set out at a) (suc at) xs (omega arith))
+
+pub cut-two : (out : List ℕ) (at a b : ℕ) (xs : List ℕ) {o₁ o₂ : List ℕ} → o₁ ≡ set out at a → o₂ ≡ set o₁ (at + 1) b
+    → length out - at < 3 → o₂ ≡ sets out at (a ∷ b ∷ xs)
+cut-two out at a b xs p q h =
+    let k = length-set out at a in
+    let l = length-set (set out at a) (suc at) b in
+    q ∙ rw (p, add-one) (sym (sets-past (set (set out at a) (suc at) b) (suc (suc at)) xs (omega arith)))
+
+pub last-cut : (out : List ℕ) (at a b c d : ℕ) {o : List ℕ} → o ≡ sets out at (a ∷ b ∷ c ∷ []) → length out < at + 4
+    → o ≡ sets out at (a ∷ b ∷ c ∷ d ∷ [])
+last-cut out at a b c d p h =
+    let j = length-set out at a in
+    let k = length-set (set out at a) (suc at) b in
+    let l = length-set (set (set out at a) (suc at) b) (suc (suc at)) c in
+    p ∙ out-of-room (set (set (set out at a) (suc at) b) (suc (suc at)) c) (suc (suc (suc at))) d (omega arith)
+
+no-more : (out : List ℕ) (at : ℕ) (xs : List ℕ) → (1 ≤ length xs → length out ≤ at) → sets out at xs ≡ out
+no-more out at [] h = refl
+no-more out at (x ∷ xs) h = sets-past out at (x ∷ xs) (h (omega arith))
+
+-- a copy of the n bytes that there is room for: v is what the buffer is to be, and that is what it is now, with the bytes
+-- that are left from at + i on
+module _ (out bytes : List ℕ) (at n i : ℕ) {v : List ℕ} (inv : v ≡ sets out (at + i) (drop i bytes)) where
+  pub copy-turn : {len : ℕ} → n ≡ length bytes - (length bytes - (len - at)) → length out ≡ len → i < n
+      → v ≡ sets (set out (at + i) (getD bytes i 0)) (at + (i + 1)) (drop (i + 1) bytes)
+  copy-turn r f l =
+      let e : at + (i + 1) ≡ suc (at + i) = omega arith in
+      inv ∙ rw (e, add-one i, drop-cons bytes i 0 (omega arith))
+
+  pub copied : {len : ℕ} → n ≡ length bytes - (length bytes - (len - at)) → length out ≡ len → n ≤ i → out ≡ v
+  copied e f l =
+      sym (inv ∙ no-more out (at + i) (drop i bytes) (λ h. let k = length-drop i bytes in omega arith))
+
+-- a fill with as many of `all` zero bytes as there is room for
+module _ (out : List ℕ) (at all n i : ℕ) {v : List ℕ} (inv : v ≡ sets out (at + i) (zeros (all - i))) where
+  pub fill-turn : {len : ℕ} → n ≡ all - (all - (len - at)) → length out ≡ len → i < n
+      → v ≡ sets (set out (at + i) 0) (at + (i + 1)) (zeros (all - (i + 1)))
+  fill-turn e g l =
+      let f : at + (i + 1) ≡ suc (at + i) = omega arith in
+      let k : all - i ≡ suc (all - (i + 1)) = omega arith in
+      inv ∙ rw (f, k)
+
+  pub filled : {len : ℕ} → n ≡ all - (all - (len - at)) → length out ≡ len → n ≤ i → out ≡ v
+  filled e f l =
+      sym (inv ∙ no-more out (at + i) (zeros (all - i)) (λ h. let k = length-replicate {A = ℕ} (all - i) 0 in omega arith))
+
+-- the length of a number, and of four
+pub length-bytes : (n : ℕ) → length (bytesOf n) ≡ 4
+unfolding bytesOf
+length-bytes n = refl
+
+pub length-four : (a b c d : ℕ) → length (fourBytes a b c d) ≡ 16
+unfolding fourBytes bytesOf
+length-four a b c d = refl
