@@ -8,19 +8,19 @@ use lib.ListN.{getD}
 use native.Mathlib.Omega.{arith}
 use borrow.Author.Tests.{eqb-true, eq-eqb}
 use Rattle.strings.specs.Strings.{stringsFrom, isEnded}
+use Rattle.strings.proofs.RowLaws.{single-among}
 use Rattle.format.specs.declared.verdict.Verdict.the-variants.{Pass}
 use Rattle.format.specs.Lead.{leadOf}
 use Rattle.format.proofs.VerdictLaws.{passed, inverted}
 use Rattle.package.specs.Lead.{leadCheck}
 use Rattle.demands.specs.Lawful.{LawfulLead}
-use Rattle.demands.proofs.StringLawful.{strings-lawful, zero-among}
 
 module _ (s : List ℕ) where
   -- bytes 10 to 75
   name-lawful : (isEnded (stringsFrom s 66 10 1) ≡ true) ↔ ((i : ℕ) × (10 ≤ i) × (i ≤ 75) × (getD s i 0 ≡ 0))
   name-lawful = (
-    λ h. let r = zero-among s 66 10 .0 (strings-lawful s 66 10 1 .0 h) in (r .0, r .1, omega arith, r .3),
-    λ h. strings-lawful s 66 10 1 .1 (zero-among s 66 10 .1 (h .0, h .1, omega arith, h .3)),
+    λ h. let r = single-among s 66 10 .0 h in (r .0, r .1, omega arith, r .3),
+    λ h. single-among s 66 10 .1 (h .0, h .1, omega arith, h .3),
   )
 
   lead-rules : leadCheck (leadOf s) ≡ Pass → LawfulLead s

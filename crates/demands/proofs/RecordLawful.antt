@@ -1,13 +1,13 @@
 -- Checks 9 to 13 of one index record are what the rules say of it: record-lawful, tags-lawful.
 use Prim.Native.Nat.{ℕ, zero, suc, _+_, _-_, _*_, _%_, _≤_, _<_}
 use mathlib.Core.Path.{_≡_, refl}
-use mathlib.Core.Logic.{_⊎_, inl, inr, ⊎-elim, _↔_, _≢_}
+use mathlib.Core.Logic.{⊎-elim, _↔_, _≢_}
 use mathlib.Core.List.{List}
 use mathlib.Core.Bool.{Bool, true, false, cond, _||_}
 use lib.Dec.{eqb, leb}
 use native.Mathlib.Omega.{arith}
 use native.Mathlib.Nat.{eq-or-lt-of-le}
-use borrow.Author.Tests.{eqb-true, eqb-false, eq-eqb, ne-eqb, leb-true, leb-false, le-leb}
+use borrow.Author.Tests.{eqb-true, eqb-false, eq-eqb, leb-true, leb-false}
 use Rattle.strings.specs.declared.Ending.the-variants.{Ends, Open}
 use Rattle.strings.specs.Strings.{isEnded}
 use Rattle.format.specs.declared.section.Section.{Section}
@@ -19,63 +19,11 @@ use Rattle.entries.specs.Types.{elementSize, isLawful}
 use Rattle.entries.specs.Entries.{recordAt, typeLawful, countRight, alignedTo, isAligned}
 use Rattle.entries.specs.Entries.{endFor, dataEnd, isInside}
 use Rattle.repeats.specs.Repeats.{tagBefore}
+use Rattle.entries.proofs.RuleLaws.{type-lawful, count-lawful}
 use Rattle.demands.specs.Lawful.{zerosFrom, LawfulRecord}
 use Rattle.demands.proofs.StringLawful.{strings-lawful}
 
--- 9
-module _ (ty : ℕ) where
-  -- 10 upward: a remainder of 10 is another type
-  past-table : 9 < ty → isLawful (elementSize ty) ≡ false
-  unfolding elementSize
-  past-table l = simp (other 1, other 2, other 3, other 4, other 6, other 7, other 8, other 9)
-    where
-      other : (k : ℕ) → eqb ty (k % 10) ≡ false
-      other k = ne-eqb ty (k % 10) (λ e. omega arith)
-
-  -- from 9 down
-  down : (k : ℕ) → ty ≤ suc k → (ty ≡ suc k → isLawful (elementSize ty) ≡ true)
-      → (ty ≤ k → isLawful (elementSize ty) ≡ true) → isLawful (elementSize ty) ≡ true
-  down k l here below = ⊎-elim here (λ m. below (omega arith)) (eq-or-lt-of-le l)
-
-  in-table : 1 ≤ ty → ty ≢ 5 → ty ≤ 9 → isLawful (elementSize ty) ≡ true
-  unfolding elementSize
-  in-table l n m =
-      down 8 m (λ e. rw e) λ m. down 7 m (λ e. rw e) λ m. down 6 m (λ e. rw e) λ m. down 5 m (λ e. rw e)
-      λ m. down 4 m (λ e. absurd (n e)) λ m. down 3 m (λ e. rw e) λ m. down 2 m (λ e. rw e) λ m. down 1 m (λ e. rw e)
-      λ m. let e : ty ≡ 1 = omega arith in rw e
-
-  clash : isLawful (elementSize ty) ≡ true → isLawful (elementSize ty) ≡ false → ⊥
-  clash h f = let z : _≡_ {A = ℕ} 0 1 = cc in omega arith
-
-  type-lawful : (isLawful (elementSize ty) ≡ true) ↔ ((1 ≤ ty) × (ty ≢ 5) × (ty ≤ 9))
-  unfolding elementSize
-  type-lawful = (
-    λ h. let n : ty ≡ 0 → ⊥ = λ e. clash h (rw e) in
-        let p : 9 < ty → ⊥ = λ l. clash h (past-table l) in
-        (omega arith, λ e. clash h (rw e), omega arith),
-    λ h. in-table (h .0) (h .1) (h .2),
-  )
-
 module _ (s : List ℕ) (section : Section) (e : IndexRecord) where
-  -- 10
-  single-lawful : (e .ty ≡ 6) ⊎ (e .ty ≡ 9)
-      → (eqb (e .count) 1 ≡ true) ↔ ((1 ≤ e .count) × ((e .ty ≡ 6) ⊎ (e .ty ≡ 9) → e .count ≡ 1))
-  single-lawful k = (λ h. let c = eqb-true (e .count) 1 h in (omega arith, λ k. c), λ h. eq-eqb _ _ (h .1 k))
-
-  count-lawful : (countRight e ≡ true) ↔ ((1 ≤ e .count) × ((e .ty ≡ 6) ⊎ (e .ty ≡ 9) → e .count ≡ 1))
-  unfolding countRight
-  count-lawful = go (eqb (e .ty) 6) (eqb (e .ty) 9) refl refl
-    where
-      go : (a b : Bool) → eqb (e .ty) 6 ≡ a → eqb (e .ty) 9 ≡ b
-          → (cond (a || b) (eqb (e .count) 1) (leb 1 (e .count)) ≡ true)
-          ↔ ((1 ≤ e .count) × ((e .ty ≡ 6) ⊎ (e .ty ≡ 9) → e .count ≡ 1))
-      go true b p q = single-lawful (inl (eqb-true _ _ p))
-      go false true p q = single-lawful (inr (eqb-true _ _ q))
-      go false false p q = (
-        λ h. (leb-true _ _ h, λ k. absurd (⊎-elim (eqb-false _ _ p) (eqb-false _ _ q) k)),
-        λ h. le-leb _ _ (h .0),
-      )
-
   -- 11
   aligned-lawful : (size : ElementSize)
       → (alignedTo size (e .offset .0) ≡ true) ↔ ((n : ℕ) → size ≡ Bytes n → e .offset .0 % n ≡ 0)
@@ -127,8 +75,8 @@ module _ (s : List ℕ) (section : Section) (e : IndexRecord) where
       let inside = inside-lawful (elementSize (e .ty)) h9 .0 h12 in
       record {
         type′ = type-lawful (e .ty) .0 h9;
-        count = count-lawful .0 h10 .0;
-        single = count-lawful .0 h10 .1;
+        count = count-lawful e .0 h10 .0;
+        single = count-lawful e .0 h10 .1;
         aligned = aligned-lawful (elementSize (e .ty)) .0 h11;
         fixed = inside .0;
         strings = inside .1;
@@ -140,7 +88,7 @@ module _ (s : List ℕ) (section : Section) (e : IndexRecord) where
   record-checks h =
       let lawful = type-lawful (e .ty) .1 (h .type′) in (
         lawful,
-        count-lawful .1 (h .count, h .single),
+        count-lawful e .1 (h .count, h .single),
         aligned-lawful (elementSize (e .ty)) .1 (h .aligned),
         inside-lawful (elementSize (e .ty)) lawful .1 (h .fixed, h .strings),
       )

@@ -1,2 +1,3 @@
 pub mod TypeLaws
 pub mod EntryLaws
+pub mod RuleLaws

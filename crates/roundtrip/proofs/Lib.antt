@@ -1,0 +1,11 @@
+pub mod HoldsLaws
+pub mod ReasonLaws
+pub mod RecordLaws
+pub mod StructureLaws
+pub mod LeadLaws
+pub mod ShownLaws
+pub mod PackageLaws
+pub mod NumberLaws
+pub mod WroteLaws
+pub mod LentLaws
+pub mod Trips

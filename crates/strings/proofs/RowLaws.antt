@@ -1,6 +1,8 @@
--- One string of a row: where it lies (string-at), and its bytes (single-ends, single-text).
-use Prim.Native.Nat.{ℕ, zero, suc, _+_, _-_, _<_}
+-- One string of a row: where it lies (string-at), its bytes (single-ends, single-text), and that it ends where some byte is
+-- zero (single-among).
+use Prim.Native.Nat.{ℕ, zero, suc, _+_, _-_, _≤_, _<_}
 use mathlib.Core.Path.{_≡_, refl}
+use mathlib.Core.Logic.{_↔_}
 use mathlib.Core.List.{List}
 use mathlib.Core.Bool.{Bool, true, false, cond}
 use lib.Dec.{eqb}
@@ -8,7 +10,7 @@ use lib.ListN.{getD}
 use native.Mathlib.Omega.{arith}
 use borrow.Author.Tests.{eqb-true, eqb-false}
 use Rattle.strings.specs.declared.Ending.the-variants.{Ends}
-use Rattle.strings.specs.Strings.{stringsFrom}
+use Rattle.strings.specs.Strings.{stringsFrom, isEnded}
 use Rattle.strings.proofs.StringLaws.{split}
 
 -- string k of a row: where it starts and where it ends
@@ -46,3 +48,25 @@ module _ (s : List ℕ) where
       go true t g i l q f = let w : at + 1 ≡ e = cc in omega arith
       go false t g zero l q f = let v : at + 0 ≡ at = omega arith in eqb-false _ _ t (rw v at q)
       go false t g (suc i) l q f = let v : at + suc i ≡ at + 1 + i = omega arith in f g i (omega arith) (rw v at q)
+
+  -- a single string ends in its room where one of the bytes there is zero
+  pub single-among : (room at : ℕ)
+      → (isEnded (stringsFrom s room at 1) ≡ true) ↔ ((i : ℕ) × (at ≤ i) × (i < at + room) × (getD s i 0 ≡ 0))
+  unfolding stringsFrom
+  single-among zero at = (
+    λ h. let z : _≡_ {A = ℕ} 0 1 = cc in absurd (omega arith),
+    λ h. let l = h .1 in let m = h .2 in absurd (omega arith),
+  )
+  single-among (suc room) at = go (eqb (getD s at 0) 0) refl (single-among room (at + 1))
+    where
+      go : (b : Bool) → eqb (getD s at 0) 0 ≡ b
+          → (isEnded (stringsFrom s room (at + 1) 1) ≡ true)
+          ↔ ((i : ℕ) × (at + 1 ≤ i) × (i < at + 1 + room) × (getD s i 0 ≡ 0))
+          → (isEnded (cond b (stringsFrom s room (at + 1) 0) (stringsFrom s room (at + 1) 1)) ≡ true)
+          ↔ ((i : ℕ) × (at ≤ i) × (i < at + suc room) × (getD s i 0 ≡ 0))
+      go true t f = (λ h. (at, omega arith, omega arith, eqb-true _ _ t), λ h. refl)
+      go false t f = (
+        λ h. let r = f .0 h in (r .0, omega arith, omega arith, r .3),
+        λ h. let k : h .0 ≡ at → ⊥ = λ e. eqb-false _ _ t (rw e at (h .3)) in
+            f .1 (h .0, omega arith, omega arith, h .3),
+      )

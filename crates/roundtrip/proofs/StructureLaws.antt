@@ -1,0 +1,188 @@
+-- A structure that was written: it passes checks 5 to 13 (structure-pass), each of its records is the entry's in its place
+-- (structure-reads), and it ends where its bytes do (structure-end).
+use Prim.Native.Nat.{ℕ, zero, suc, _+_, _-_, _*_, _≤_, _<_}
+use mathlib.Core.Path.{_≡_, refl, sym, ap, _∙_}
+use mathlib.Core.List.{List, [], _∷_, _++_}
+use lib.ListN.{length, length-append, length-replicate}
+use native.Mathlib.Omega.{arith}
+use borrow.Author.Tests.{le-leb}
+use Rattle.format.specs.declared.section.Section.{Section}
+use Rattle.format.specs.declared.verdict.Verdict.the-variants.{Pass}
+use Rattle.format.specs.Places.{recordPlace, storePlace, sectionEnd}
+use Rattle.format.specs.Records.{headerRecordAt}
+use Rattle.format.proofs.VerdictLaws.{passed, both-pass}
+use Rattle.repeats.specs.Repeats.{tagBefore}
+use Rattle.entries.specs.Entries.{recordCheck}
+use Rattle.structure.specs.Structure.{sectionOf, sectionAt, headerCheck, recordsFrom, recordsCheck, structureCheck}
+use Rattle.put.specs.Puts.{fourBytes, zeros}
+use Rattle.lists.specs.Lists.{ListEntry}
+use Rattle.reasons.specs.Reasons.{recordOf, tagIn, entriesReasons}
+use Rattle.layout.specs.Layout.{dataStart, dataStop, recordBytes, indexFrom, storeFrom, headerBytes, structureBytes}
+use Rattle.roundtrip.specs.Lawful.{nth}
+use Rattle.roundtrip.proofs.HoldsLaws.{Holds, front, rest, moved, within, four-length, four}
+use Rattle.roundtrip.proofs.ReasonLaws.{EntryRight, entries-right, ListRight}
+use Rattle.roundtrip.proofs.RecordLaws.{WideEntry, offset-right, Reads, reads, passes, next-tags, next-index, next-store}
+
+-- each entry of a list
+abbrev pub Wide : List ListEntry → Type 0
+Wide entries = (i : ℕ) → i < length entries → WideEntry (nth entries i)
+
+abbrev pub ReadsFrom : List ℕ → Section → ℕ → List ListEntry → Type 0
+ReadsFrom p section i entries = (k : ℕ) → k < length entries → Reads p section (i + k) (nth entries k)
+
+index-step : (filled : ℕ) (entry : ListEntry) (rest : List ListEntry) → indexFrom filled (entry ∷ rest)
+    ≡ recordBytes (recordOf entry (dataStart filled entry)) ++ indexFrom (dataStop filled entry) rest
+unfolding indexFrom
+index-step filled entry rest = refl
+
+store-step : (filled : ℕ) (entry : ListEntry) (rest : List ListEntry) → storeFrom filled (entry ∷ rest)
+    ≡ zeros (dataStart filled entry - filled) ++ (entry .bytes ++ storeFrom (dataStop filled entry) rest)
+unfolding storeFrom
+store-step filled entry rest = refl
+
+-- how much of the store is left to fill
+pub store-room : (filled : ℕ) (entry : ListEntry) (rest : List ListEntry)
+    → filled + length (storeFrom filled (entry ∷ rest))
+    ≡ dataStop filled entry + length (storeFrom (dataStop filled entry) rest)
+store-room filled entry rest =
+    let g = offset-right (entry .ty) filled .0 in
+    let a = length-append (zeros (dataStart filled entry - filled)) (entry .bytes ++ storeFrom (dataStop filled entry) rest) in
+    let b = length-append (entry .bytes) (storeFrom (dataStop filled entry) rest) in
+    let c = length-replicate {A = ℕ} (dataStart filled entry - filled) 0 in
+    rw (store-step filled entry rest) (omega arith)
+
+index-length : (filled : ℕ) (entries : List ListEntry) → length (indexFrom filled entries) ≡ 16 * length entries
+unfolding indexFrom
+index-length filled [] = refl
+index-length filled (entry ∷ rest) =
+    let e = recordOf entry (dataStart filled entry) in
+    let a = four-length (entry .tag) (entry .ty) (dataStart filled entry) (entry .count) in
+    let b = length-append (recordBytes e) (indexFrom (dataStop filled entry) rest) in
+    let k = index-length (dataStop filled entry) rest in
+    omega arith
+
+pass-step : (p : List ℕ) (section : Section) (n i : ℕ) → recordCheck p section i ≡ Pass
+    → recordsFrom p section n (i + 1) ≡ Pass → recordsFrom p section (suc n) i ≡ Pass
+unfolding recordsFrom
+pass-step p section n i h k = both-pass h ∙ k
+
+pass-none : (p : List ℕ) (section : Section) (i : ℕ) → recordsFrom p section 0 i ≡ Pass
+unfolding recordsFrom
+pass-none p section i = refl
+
+reads-step : (p : List ℕ) (section : Section) (i : ℕ) (entry : ListEntry) (rest : List ListEntry) → Reads p section i entry
+    → ReadsFrom p section (i + 1) rest → ReadsFrom p section i (entry ∷ rest)
+reads-step p section i entry rest h f zero l = let e : i + 0 ≡ i = omega arith in rw e h
+reads-step p section i entry rest h f (suc k) l = let e : i + suc k ≡ i + 1 + k = omega arith in rw e (f k (omega arith))
+
+-- the entries whose records stand from place i of the index on, and their data behind what fills the store up to a place
+module _ (p : List ℕ) (section : Section) (small : section .hsize < 4294967296) where
+  records : (entries : List ListEntry) (seen : List ℕ) (i filled : ℕ) → entriesReasons seen entries ≡ Pass → Wide entries
+      → Holds p (recordPlace section i) (indexFrom filled entries)
+      → Holds p (storePlace section + filled) (storeFrom filled entries)
+      → filled + length (storeFrom filled entries) ≡ section .hsize
+      → ((tag : ℕ) → tagBefore p section i tag ≡ tagIn tag seen)
+      → (recordsFrom p section (length entries) i ≡ Pass) × ReadsFrom p section i entries
+  records [] seen i filled h w hi hs r t = (pass-none p section i, λ k l. absurd (omega arith))
+  records (entry ∷ rest) seen i filled h w hi hs r t =
+      let k = entries-right seen entry rest .0 h in
+      let index = indexFrom (dataStop filled entry) rest in
+      let store = storeFrom (dataStop filled entry) rest in
+      let room = store-room filled entry rest in
+      let fits : dataStop filled entry ≤ section .hsize = omega arith in
+      let hi′ = rw (index-step filled entry rest) at hi in
+      let hs′ = rw (store-step filled entry rest) at hs in
+      let w′ : WideEntry entry = w 0 (omega arith) in
+      let later =
+      records rest (entry .tag ∷ seen) (i + 1) (dataStop filled entry) (k .1) (λ j l. w (suc j) (omega arith))
+      (next-index p section small entry seen index store i filled (k .0) w′ hi′ hs′ fits t)
+      (next-store p section small entry seen index store i filled (k .0) w′ hi′ hs′ fits t)
+      (omega arith)
+      (next-tags p section small entry seen index store i filled (k .0) w′ hi′ hs′ fits t) in (
+        pass-step p section (length rest) i
+            (passes p section small entry seen index store i filled (k .0) w′ hi′ hs′ fits t) (later .0),
+        reads-step p section i entry rest
+            (reads p section small entry seen index store i filled (k .0) w′ hi′ hs′ fits t) (later .1),
+      )
+
+header-pass : (len start nindex hsize : ℕ) → 1 ≤ nindex → nindex ≤ 512 → start + 16 + 16 * nindex + hsize ≤ len
+    → headerCheck len start (record { magic = 0x8EADE801; reserved = 0; nindex = nindex; hsize = hsize }) ≡ Pass
+unfolding headerCheck
+header-pass len start nindex hsize a b c =
+    sym (passed _ _ (le-leb _ _ (let l : start + 16 ≤ len = omega arith in l))
+    (passed _ _ refl
+    (passed _ _ refl
+    (passed _ _ (le-leb _ _ a)
+    (passed _ _ (le-leb _ _ b)
+    (passed _ _ (le-leb _ _ c)
+    refl))))))
+
+no-tags : (p : List ℕ) (section : Section) (tag : ℕ) → tagBefore p section 0 tag ≡ tagIn tag []
+unfolding tagBefore tagIn
+no-tags p section tag = refl
+
+-- a structure that stands in a list
+module _ (p : List ℕ) (start : ℕ) (entries : List ListEntry) (right : ListRight entries) (wide : Wide entries)
+    (small : length (storeFrom 0 entries) < 4294967296) (h : Holds p start (structureBytes entries)) where
+  abbrev section : Section
+  section = record { start = record { 0 = start }; nindex = length entries; hsize = length (storeFrom 0 entries) }
+
+  abbrev head : List ℕ
+  head = headerBytes (length entries) (length (storeFrom 0 entries))
+
+  parts : Holds p start (head ++ (indexFrom 0 entries ++ storeFrom 0 entries))
+  unfolding structureBytes
+  parts = h
+
+  header-read : headerRecordAt p start
+      ≡ record { magic = 0x8EADE801; reserved = 0; nindex = length entries; hsize = length (storeFrom 0 entries) }
+  header-read =
+      let w = right .within in
+      let f =
+      four 0x8EADE801 0 (length entries) (length (storeFrom 0 entries)) (omega arith) (omega arith) (omega arith) small
+      (front head (indexFrom 0 entries ++ storeFrom 0 entries) parts) in
+      rw (f .first, f .second, f .third, f .fourth)
+
+  section-read : sectionAt p start ≡ section
+  section-read = ap (sectionOf start) header-read
+
+  behind-head : Holds p (start + 16) (indexFrom 0 entries ++ storeFrom 0 entries)
+  behind-head =
+      let e = four-length 0x8EADE801 0 (length entries) (length (storeFrom 0 entries)) in
+      moved (omega arith) (rest head (indexFrom 0 entries ++ storeFrom 0 entries) parts)
+
+  store : Holds p (storePlace section + 0) (storeFrom 0 entries)
+  store =
+      let e = index-length 0 entries in
+      moved (omega arith) (rest (indexFrom 0 entries) (storeFrom 0 entries) behind-head)
+
+  both-read : (recordsFrom p section (length entries) 0 ≡ Pass) × ReadsFrom p section 0 entries
+  both-read =
+      records p section small entries [] 0 0 (right .each) wide
+      (moved (omega arith) (front (indexFrom 0 entries) (storeFrom 0 entries) behind-head)) store (omega arith)
+      (no-tags p section)
+
+  pub structure-pass : structureCheck p (length p) start ≡ Pass
+  unfolding structureCheck
+  structure-pass =
+      let w = within store in
+      let a =
+      header-pass (length p) start (length entries) (length (storeFrom 0 entries)) (right .some) (right .within)
+      (omega arith) in
+      both-pass (ap (headerCheck (length p) start) header-read ∙ a)
+      ∙ ap (λ (x : Section). recordsCheck p x) section-read ∙ both-read .0
+
+  pub structure-reads : (k : ℕ) → k < length entries → Reads p (sectionAt p start) k (nth entries k)
+  structure-reads k l = let e : 0 + k ≡ k = omega arith in rw section-read (rw e at (both-read .1 k l))
+
+  pub structure-count : sectionAt p start .nindex ≡ length entries
+  structure-count = ap (λ (x : Section). x .nindex) section-read
+
+  pub structure-end : sectionEnd (sectionAt p start) ≡ start + length (structureBytes entries)
+  unfolding structureBytes
+  structure-end =
+      let a = four-length 0x8EADE801 0 (length entries) (length (storeFrom 0 entries)) in
+      let b = index-length 0 entries in
+      let c = length-append (indexFrom 0 entries) (storeFrom 0 entries) in
+      let d = length-append head (indexFrom 0 entries ++ storeFrom 0 entries) in
+      ap sectionEnd section-read ∙ omega arith

@@ -1,0 +1,101 @@
+-- What is written is read back, and written again: the theorems read-back and write-again of specs/Theorems.
+use Prim.Native.Nat.{ℕ, _/_, _≤_}
+use mathlib.Core.Path.{_≡_, refl, sym, ap, _∙_}
+use mathlib.Core.List.{List, [], _∷_, _++_}
+use lib.ListN.{length, take, drop, length-append}
+use native.Mathlib.Omega.{arith}
+use Rattle.format.specs.declared.verdict.Answer.{Answer}
+use Rattle.format.specs.declared.verdict.Answer.the-variants.{Done}
+use Rattle.format.specs.declared.verdict.Verdict.the-variants.{Pass}
+use Rattle.put.specs.Puts.{bytesOf}
+use Rattle.lists.specs.Lists.{ListEntry, listOf, rowOf, entriesOf}
+use Rattle.reasons.specs.Reasons.{listReasons, sizeEntry}
+use Rattle.layout.specs.Layout.{structureBytes, withSize, written}
+use Rattle.writer.specs.Writing.{writtenOf, writeCheck, Wrote}
+use Rattle.roundtrip.specs.Shown.{shown, behindFirst}
+use Rattle.roundtrip.specs.Theorems.{Octets, Made, ReadBack, WriteAgain}
+use Rattle.roundtrip.proofs.ReasonLaws.{ListRight, list-right, size-right, Accepted, accepted}
+use Rattle.roundtrip.proofs.StructureLaws.{Wide}
+use Rattle.roundtrip.proofs.PackageLaws.{Writable, reads-back}
+use Rattle.roundtrip.proofs.WroteLaws.{done, stands}
+use Rattle.roundtrip.proofs.LentLaws.{wide-step, wide, lent-entries, lent-form}
+
+-- the signature's list with the right number
+with-size : (signature header : List ListEntry) → ListRight (sizeEntry 0 ∷ signature) → ListRight (withSize signature header)
+unfolding withSize
+with-size signature header r =
+    list-right _ .0 (size-right (length (structureBytes header)) signature ∙ list-right _ .1 r)
+
+wide-size : (signature header : List ListEntry) → Wide signature → Wide (withSize signature header)
+unfolding withSize bytesOf
+wide-size signature header w =
+    wide-step (sizeEntry (length (structureBytes header))) signature (omega arith, omega arith, omega arith, omega arith) w
+
+-- a writing that is accepted
+module _ (name signature signatureRow header headerRow : List ℕ) (room : ℕ) (os : Octets signature) (oh : Octets header)
+    (a : Accepted name signature signatureRow header headerRow room) where
+  abbrev signed : List ListEntry
+  signed = entriesOf signature signatureRow
+
+  abbrev headed : List ListEntry
+  headed = entriesOf header headerRow
+
+  wide-signed : Wide signed
+  wide-signed = wide signature signatureRow os (length signature / 16) 0 0
+
+  wide-headed : Wide headed
+  wide-headed = wide header headerRow oh (length header / 16) 0 0
+
+  writable : Writable name signed headed
+  writable =
+      record {
+        named = a .named;
+        signed = with-size signed headed (a .signed);
+        headed = a .headed;
+        wideSigned = wide-size signed headed wide-signed;
+        wideHeaded = wide-headed;
+        limit = a .limit;
+      }
+
+  -- the same entries, lent anew
+  again : (more : ℕ) → length (writtenOf name signature signatureRow header headerRow) ≤ more
+      → writeCheck name (listOf signed) (rowOf signed) (listOf headed) (rowOf headed) more ≡ Pass
+  again more l =
+      accepted name (listOf signed) (rowOf signed) (listOf headed) (rowOf headed) more .1
+      (record {
+        signedForm = lent-form signed wide-signed;
+        headedForm = lent-form headed wide-headed;
+        named = a .named;
+        signed = rw (lent-entries signed wide-signed) (a .signed);
+        headed = rw (lent-entries headed wide-headed) (a .headed);
+        limit = rw (lent-entries signed wide-signed, lent-entries headed wide-headed) (a .limit);
+        fits = rw (lent-entries signed wide-signed, lent-entries headed wide-headed) l;
+      })
+
+  same : writtenOf name (listOf signed) (rowOf signed) (listOf headed) (rowOf headed)
+      ≡ writtenOf name signature signatureRow header headerRow
+  same = rw (lent-entries signed wide-signed, lent-entries headed wide-headed)
+
+pub read-back : ReadBack
+read-back name signature signatureRow header headerRow before after answer n os oh w h =
+    let d = done w h in
+    let s = stands w n (d .0) (d .1) in
+    let a = accepted name signature signatureRow header headerRow (length before) .0 (d .0) in
+    let r =
+    reads-back name (entriesOf signature signatureRow) (entriesOf header headerRow)
+    (writable name signature signatureRow header headerRow (length before) os oh a) in
+    record { reads = rw (s .1) r; size = ap length (s .1) ∙ d .1; behind = s .2 }
+
+pub write-again : WriteAgain
+write-again name signature signatureRow header headerRow before after answer n os oh w h before′ after′ answer′ l w′ =
+    let d = done w h in
+    let s = stands w n (d .0) (d .1) in
+    let a = accepted name signature signatureRow header headerRow (length before) .0 (d .0) in
+    let r = read-back name signature signatureRow header headerRow before after answer n os oh w h .reads in
+    let e : behindFirst (shown (take n after) 0) ≡ entriesOf signature signatureRow = ap behindFirst (r .signed) in
+    let f : shown (take n after) 1 ≡ entriesOf header headerRow = r .headed 1 (λ q. omega arith) in
+    let v =
+    again name signature signatureRow header headerRow (length before) os oh a (length before′) (omega arith) in
+    let b = same name signature signatureRow header headerRow (length before) os oh a in
+    let t = stands (rw (e, f) at w′) n v (ap length b ∙ d .1) in
+    (t .0, t .1 ∙ b ∙ sym (s .1), t .2)
