@@ -119,22 +119,25 @@ static void print_word(struct word word)
     fputc('"', stderr);
 }
 
-/* The line's next word, which is taken off its front; empty at its end or a remark. */
+static bool is_blank(char byte)
+{
+    return byte == ' ' || byte == '\t';
+}
+
+/* Takes the next word off the line's front. It is empty at the line's end, which a word
+   that begins with # is too. */
 static struct word next_word(struct word *line)
 {
-    struct word word = *line;
-    while (word.length > 0 && (*word.start == ' ' || *word.start == '\t'))
-        word.start++, word.length--;
-    line->length = word.length;
-    line->start = word.start;
-    if (word.length > 0 && *word.start == '#')
-        word.length = 0;
-    size_t end = 0;
-    while (end < word.length && word.start[end] != ' ' && word.start[end] != '\t')
+    size_t start = 0;
+    while (start < line->length && is_blank(line->start[start]))
+        start++;
+    if (start < line->length && line->start[start] == '#')
+        line->length = start;
+    size_t end = start;
+    while (end < line->length && !is_blank(line->start[end]))
         end++;
-    word.length = end;
-    line->start += end;
-    line->length -= end;
+    struct word word = {line->start + start, end - start};
+    *line = (struct word){line->start + end, line->length - end};
     return word;
 }
 
@@ -388,7 +391,7 @@ static void list_rest(struct list *header, const struct recipe *recipe)
 /* 20001 and 20002: the book and the batch weight. */
 static void list_book(struct list *header, const struct recipe *recipe)
 {
-    uint8_t book[BOOK_ROOM];
+    uint8_t book[BOOK_ROOM] = {0};
     for (uint32_t i = 0; i < recipe->count; i++) {
         uint8_t *record = book + (size_t)i * DOSE_SIZE;
         record[0] = DOSE_KIND;

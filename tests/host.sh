@@ -238,6 +238,12 @@ while IFS= read -r line; do
     grep -qxF "    $line" README.md || fail "README.md: no '$line'"
 done < "$work/out"
 
+# docs/REFUSALS.md: what its program prints
+sed -n '/^```c$/,/^```$/p' docs/REFUSALS.md | sed '/^```/d' > "$work/write.c"
+sed -n '/^```text$/,/^```$/p' docs/REFUSALS.md | sed '/^```/d' > "$work/printed"
+gcc -std=c11 -O2 -Wall -Wextra -Werror -pedantic -Iinclude "$work/write.c" "$lib" -o "$work/write"
+"$work/write" | diff "$work/printed" - || fail 'docs/REFUSALS.md: not what its program prints'
+
 # the examples of docs/REFUSALS.md
 if [ -n "$python" ]; then
     sed -n '/^```console$/,/^```$/p' docs/REFUSALS.md | sed '/^```/d' > "$work/examples"
