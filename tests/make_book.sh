@@ -334,4 +334,14 @@ sed 's/ 1250/ 1,250/' "$shop/read.txt" > "$shop/sky.txt"
 said=$(sed -n 's/^    make_book: //p' "$page")
 stops 1 "$said" $(sed 's/ 1$/ 2/' "$work/arguments") sky.txt
 
+# docs/FORMAT.md: the bytes of that package
+grep -q "\`sky-1.rpm\`, $(wc -c < "$shop/sky-1.rpm") bytes:" docs/FORMAT.md || fail 'docs/FORMAT.md: another length'
+sed -n '/^## A package on the station$/,$s/^    \([0-9A-F ]*\) # \([0-9]*\) .*/\2 \1/p' docs/FORMAT.md > "$work/listing"
+[ "$(wc -l < "$work/listing")" = 10 ] || fail 'docs/FORMAT.md: not 10 lines of bytes'
+while read -r place bytes; do
+    bytes=${bytes// /}
+    found=$(tail -c "+$((place + 1))" "$shop/sky-1.rpm" | od -An -v -tx1 -N $((${#bytes} / 2)) | tr -d ' \n' | tr a-f A-F)
+    [ "$found" = "$bytes" ] || fail "docs/FORMAT.md: at $place stands $found"
+done < "$work/listing"
+
 echo "tests: make_book: $cases cases right"
