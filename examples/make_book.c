@@ -272,6 +272,8 @@ static int take_file(const char *name, struct recipe *recipe)
         fprintf(stderr, "make_book: %s: %s\n", name, strerror(errno));
         return TROUBLE;
     }
+    if (isatty(fileno(lines.file)))
+        fprintf(stderr, "OXIDE MILLIGRAMS on each line; Ctrl-D ends them\n");
     int end = take_lines(&lines, recipe);
     if (lines.file != stdin)
         (void)fclose(lines.file);
@@ -534,8 +536,10 @@ static bool name_file(const char *from, const char *to, bool replace)
     struct stat found;
     if (replace)
         return rename(from, to) == 0;
-    if (link(from, to) == 0)
-        return unlink(from) == 0;
+    if (link(from, to) == 0) {
+        (void)unlink(from);
+        return true;
+    }
     if (errno == EEXIST)
         return false;
     if (lstat(to, &found) == 0) { /* a file system without links */

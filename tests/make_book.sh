@@ -315,6 +315,7 @@ if command -v rpm > /dev/null; then
     rpm_says 'Sky_blue-2+b.c 1_0.a+2 1 noarch linux Recipe book' "$format" Sky_blue-2+b.c-1_0.a+2.rpm
     rpm_says "$long 12 1 noarch linux Recipe book" "$format" "$long-12.rpm"
     rpm_says 'full 1 1 noarch linux Recipe book' "$format" full-1.rpm
+    rpm_says 'sky-1-1.noarch' '%{nvra}' books/blue.rpm
     rpm_says '/usr/share/books/sky' '[%{filenames}]' sky-2.0.rpm
     rpm_says 'rpmlib(CompressedFileNames)' '[%{requirename}]' sky-2.0.rpm
     [ "$(rpm -qp --provides "$shop/sky-2.0.rpm" 2> /dev/null | sort -u)" = 'sky = 2.0-1' ] || fail 'rpm: not what is provided'
@@ -331,8 +332,8 @@ said=$(sed -n 's/^    made //p' "$page")
 rm -f "$shop/${said%%:*}"
 makes "${said%%:*}" "${said#*: }" $(cat "$work/arguments") read.txt
 sed 's/ 1250/ 1,250/' "$shop/read.txt" > "$shop/sky.txt"
-said=$(sed -n 's/^    make_book: //p' "$page")
-stops 1 "$said" $(sed 's/ 1$/ 2/' "$work/arguments") sky.txt
+runs 1 $(sed 's/ 1$/ 2/' "$work/arguments") sky.txt
+sed -n 's/^    make_book: /make_book: /p' "$page" | diff - "$work/err" || fail 'README.md: another message'
 
 # docs/FORMAT.md: the bytes of that package
 grep -q "\`sky-1.rpm\`, $(wc -c < "$shop/sky-1.rpm") bytes:" docs/FORMAT.md || fail 'docs/FORMAT.md: another length'
