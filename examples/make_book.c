@@ -90,6 +90,7 @@ struct lines {
     const char *name;
     unsigned long number; /* of the line read last, from 1 */
     int wrong;            /* how many lines are wrong */
+    bool stopped;         /* whether the lines behind are left unread */
 };
 
 /* Bytes of a line between blanks. */
@@ -102,6 +103,7 @@ struct word {
 static void wrong_line(struct lines *lines)
 {
     lines->wrong++;
+    lines->stopped = lines->wrong == MOST_WRONG;
     fprintf(stderr, "make_book: %s:%lu: ", lines->name, lines->number);
 }
 
@@ -215,6 +217,7 @@ static void take_line(struct lines *lines, struct word line, struct recipe *reci
     if (line.length > MOST_LINE) {
         wrong_line(lines);
         fprintf(stderr, "the line is longer than %d bytes\n", MOST_LINE);
+        lines->stopped = true;
         return;
     }
     if (line.length > 0 && line.start[line.length - 1] == '\r')
@@ -225,6 +228,7 @@ static void take_line(struct lines *lines, struct word line, struct recipe *reci
     if (recipe->count == MOST_DOSES) {
         wrong_line(lines);
         fprintf(stderr, "one dose too many: a book has room for %d\n", MOST_DOSES);
+        lines->stopped = true;
         return;
     }
     recipe->doses[recipe->count++] = dose;
@@ -233,11 +237,10 @@ static void take_line(struct lines *lines, struct word line, struct recipe *reci
 /* Reads the next line; of a long one, MOST_LINE + 1 bytes. False at the end. */
 static bool next_line(struct lines *lines, char *room, struct word *line)
 {
-    int byte;
+    int byte = 0;
     *line = (struct word){room, 0};
-    while ((byte = getc(lines->file)) != EOF && byte != '\n')
-        if (line->length <= MOST_LINE)
-            room[line->length++] = (char)byte;
+    while (line->length <= MOST_LINE && (byte = getc(lines->file)) != EOF && byte != '\n')
+        room[line->length++] = (char)byte;
     if (ferror(lines->file) || (byte == EOF && line->length == 0))
         return false;
     lines->number++;
@@ -249,13 +252,13 @@ static int take_lines(struct lines *lines, struct recipe *recipe)
 {
     char room[MOST_LINE + 1];
     struct word line;
-    while (lines->wrong < MOST_WRONG && next_line(lines, room, &line))
+    while (!lines->stopped && next_line(lines, room, &line))
         take_line(lines, line, recipe);
     if (ferror(lines->file)) {
         fprintf(stderr, "make_book: %s: %s\n", lines->name, strerror(errno));
         return TROUBLE;
     }
-    if (lines->wrong == MOST_WRONG)
+    if (lines->stopped)
         fprintf(stderr, "make_book: %s: the lines behind were not read\n", lines->name);
     else if (lines->wrong == 0 && recipe->count == 0)
         fprintf(stderr, "make_book: %s: no doses\n", lines->name);
@@ -265,9 +268,9 @@ static int take_lines(struct lines *lines, struct recipe *recipe)
 /* The same for a file by its name. */
 static int take_file(const char *name, struct recipe *recipe)
 {
-    struct lines lines = {stdin, "standard input", 0, 0};
+    struct lines lines = {stdin, "standard input", 0, 0, false};
     if (strcmp(name, "-") != 0)
-        lines = (struct lines){fopen(name, "rb"), name, 0, 0};
+        lines = (struct lines){fopen(name, "rb"), name, 0, 0, false};
     if (lines.file == NULL) {
         fprintf(stderr, "make_book: %s: %s\n", name, strerror(errno));
         return TROUBLE;
@@ -680,7 +683,8 @@ static int make_book(struct recipe *recipe, const char *lines, const char *name,
 static int usage(void)
 {
     fprintf(stderr, "usage: make_book [-f] [-o FILE] NAME VERSION [LINES]\n"
-                    "       LINES has an OXIDE and its MILLIGRAMS on each line\n");
+                    "       LINES, or standard input: OXIDE MILLIGRAMS on each line\n"
+                    "       FILE: by default NAME-VERSION.rpm; -f replaces it\n");
     return TROUBLE;
 }
 

@@ -139,16 +139,17 @@ wrong '27 0' 'milligrams "0" is not 1 to 5000000'
 wrong '27 5000001' 'milligrams "5000001" is not 1 to 5000000'
 wrong '27 4294968546' 'milligrams "4294968546" is not 1 to 5000000'
 wrong '27 18446744073709552866' 'milligrams "18446744073709552866" is not 1 to 5000000'
-wrong "27 $(printf '%0253d' 1)" 'the line is longer than 255 bytes'
-wrong "# $(printf '%070000d' 1)" 'the line is longer than 255 bytes'
 
-# every wrong line is told of, up to ten
+# every wrong line is told of, up to ten, a line that is too long, or a dose too many
+behind='make_book: standard input: the lines behind were not read'
 stops 1 'standard input:1: no milligrams behind oxide 1
 make_book: standard input:3: oxide "a" is not a whole number: write digits alone' wrong 1 < <(printf '1\n2 2\na\n')
 ten=$(for i in $(seq 10); do echo "make_book: standard input:$i: no milligrams behind oxide 27"; done)
-stops 1 "${ten#make_book: }
-make_book: standard input: the lines behind were not read" wrong 1 < <(yes 27)
-stops 1 'standard input:586: one dose too many: a book has room for 585' wrong 1 < <(yes '27 1' | head -n 586)
+stops 1 "${ten#make_book: }"$'\n'"$behind" wrong 1 < <(yes 27)
+stops 1 'standard input:2: the line is longer than 255 bytes'$'\n'"$behind" wrong 1 < <(printf '1 1\n27 %0253d\n1\n' 1)
+stops 1 'standard input:2: the line is longer than 255 bytes'$'\n'"$behind" wrong 1 < <(printf '1 1\n# %0254d\n1\n' 1)
+stops 1 'standard input:1: the line is longer than 255 bytes'$'\n'"$behind" wrong 1 < /dev/zero
+stops 1 'standard input:586: one dose too many: a book has room for 585'$'\n'"$behind" wrong 1 < <(yes '27 1')
 # no doses
 stops 1 'standard input: no doses' none 1 < /dev/null
 stops 1 'standard input: no doses' none 1 < <(printf '# 27 1250\n\n')
