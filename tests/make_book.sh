@@ -191,7 +191,8 @@ stops 2 'books: is there already and is no ordinary file' -f -o books sky 1 sky.
 stops 2 'books/: is there already and is no ordinary file' -o books/ sky 1 sky.txt
 ln -s sky-1.rpm "$shop/link.rpm"
 stops 2 'link.rpm: is there already and is no ordinary file' -f -o link.rpm sky 1 one.txt
-stops 2 '/dev/null: is there already and is no ordinary file' -f -o /dev/null sky 1 one.txt
+mkfifo "$shop/pipe"
+stops 2 'pipe: is there already and is no ordinary file' -f -o pipe sky 1 one.txt
 # one that comes while the lines are read
 runs 2 -o late.rpm sky 1 < <(sleep 0.3; echo other > "$shop/late.rpm"; echo '1 1')
 grep -qx 'make_book: late.rpm: is there already; -f replaces it' "$work/err" || fail 'late.rpm: the message'
