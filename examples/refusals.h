@@ -6,6 +6,9 @@
 #ifndef REFUSALS_H
 #define REFUSALS_H
 
+#include <stddef.h>
+#include <stdint.h>
+
 /* What a place is. */
 enum place {
     NOWHERE,       /* nothing, always 0 */
@@ -16,7 +19,8 @@ enum place {
     INDEX_RECORD,  /* file offset of an index record */
     TAG,           /* a tag */
     BOOK_RECORD,   /* offset in the book of a record's kind byte */
-    NUMBERS        /* how many numbers the dose buffer needs */
+    NUMBERS,       /* how many numbers the dose buffer needs */
+    BYTES          /* how many bytes the package buffer needs */
 };
 
 struct refusal {
@@ -30,8 +34,9 @@ struct refusal {
 
 static const struct refusal refusals[] = {
     [0] = {NOWHERE,
-           "accepted; in a look-up: found",
-           "how many doses; in a look-up: file offset of the bytes",
+           "accepted; in a look-up: found; in a writing: written",
+           "how many doses; in a look-up: file offset of the bytes; in a writing: the "
+           "package's length in bytes",
            "a right package",
            "Nothing."},
     [1] = {NOWHERE,
@@ -181,9 +186,36 @@ static const struct refusal refusals[] = {
             "0",
             "a loop that has come to the entry's end",
             "Stop there: the lowest number that gives 26 is the entry's count."},
+    [32] = {NOWHERE,
+            "writing: the name, a list or an entry is none that can be written",
+            "0",
+            "a type, or a count, that no entry may have; data that is not what type and "
+            "count say, or a string without its zero byte; a tag twice; 1000 in the "
+            "signature's list; no entry for the header, or more than 512; a name that "
+            "is empty, over 65 bytes or has a zero byte",
+            "Correct what the host program lends. Nothing was written."},
+    [33] = {NOWHERE,
+            "writing: the package would be longer than 65536 bytes",
+            "0",
+            "too many entries, or too much data in them",
+            "Leave entries out or shorten them. Nothing was written."},
+    [34] = {BYTES,
+            "writing: the package buffer is too short",
+            "how many bytes are needed",
+            "a fault of the host program, not of what it lends to be written",
+            "Lend so many bytes; STATION_PACKAGE_ROOM is enough for every package. "
+            "Nothing was written."},
 };
 
 enum { REFUSALS = sizeof refusals / sizeof refusals[0] };
+
+/* The line of a number, or NULL for a number that has none. */
+static inline const struct refusal *refusal_of(uint32_t number)
+{
+    if (number >= REFUSALS || refusals[number].meaning == NULL)
+        return NULL;
+    return &refusals[number];
+}
 
 #undef AGAIN
 #undef RECORD_PLACE

@@ -392,7 +392,7 @@ static void print_book_record(struct bytes package, uint32_t number, uint32_t pl
 
 static void print_place(struct bytes package, uint32_t number, uint32_t place)
 {
-    switch (refusals[number].kind) {
+    switch (refusal_of(number)->kind) {
     case NOWHERE:
         printf("%" PRIu32 ", no place in the package", place);
         break;
@@ -420,18 +420,22 @@ static void print_place(struct bytes package, uint32_t number, uint32_t place)
     case NUMBERS:
         printf("%" PRIu32 " numbers of the dose buffer are needed", place);
         break;
+    case BYTES:
+        printf("%" PRIu32 " bytes of the package buffer are needed", place);
+        break;
     }
 }
 
 static void print_refused(struct bytes package, uint32_t number, uint32_t place)
 {
+    const struct refusal *refusal = refusal_of(number);
     printf("refused %" PRIu32 " at %" PRIu32 "\n", number, place);
-    if (number < REFUSALS) {
-        printf("Means:  %s.\n", refusals[number].meaning);
+    if (refusal != NULL) {
+        printf("Means:  %s.\n", refusal->meaning);
         printf("Place:  ");
         print_place(package, number, place);
-        printf("\nOften:  %s.\n", refusals[number].cause);
-        printf("To do:  %s\n", refusals[number].remedy);
+        printf("\nOften:  %s.\n", refusal->cause);
+        printf("To do:  %s\n", refusal->remedy);
     } else {
         printf("Means:  a check that this program does not know.\n");
     }
@@ -486,9 +490,12 @@ static int read_package(const char *name, uint32_t edition)
 static int print_table(void)
 {
     printf("| No. | Means | Place | Often | To do |\n|---|---|---|---|---|\n");
-    for (int i = 0; i < REFUSALS; i++)
-        printf("| %d | %s | %s | %s | %s |\n", i, refusals[i].meaning, refusals[i].place,
-               refusals[i].cause, refusals[i].remedy);
+    for (uint32_t i = 0; i < REFUSALS; i++) {
+        const struct refusal *refusal = refusal_of(i);
+        if (refusal != NULL)
+            printf("| %" PRIu32 " | %s | %s | %s | %s |\n", i, refusal->meaning,
+                   refusal->place, refusal->cause, refusal->remedy);
+    }
     return ACCEPTED;
 }
 

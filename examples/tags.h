@@ -1,6 +1,7 @@
 /*
  * The catalogue's tags: name, type, count and whether a package must have them, and
- * the tags that stand together. For messages only; the library does the checking.
+ * the tags that stand together. For messages, and for the types of entries to be written;
+ * the library does the checking.
  */
 #ifndef TAGS_H
 #define TAGS_H
@@ -172,7 +173,7 @@ static const struct group groups[] = {
 #undef TOGETHER
 
 /* The catalogue's line for a tag, or NULL. */
-static const struct line *line_of(int structure, uint32_t tag)
+static inline const struct line *line_of(int structure, uint32_t tag)
 {
     const struct line *lines = header_lines;
     size_t count = sizeof header_lines / sizeof header_lines[0];
@@ -187,7 +188,7 @@ static const struct line *line_of(int structure, uint32_t tag)
 }
 
 /* The group whose fault a tag is the place of, or NULL. */
-static const struct group *group_of(uint32_t tag)
+static inline const struct group *group_of(uint32_t tag)
 {
     for (size_t i = 0; i < sizeof groups / sizeof groups[0]; i++)
         if (groups[i].first <= tag && tag <= groups[i].last)

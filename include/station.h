@@ -1,24 +1,28 @@
 /*
- * station.h: read an RPM package (a recipe book) from C, and look into it.
+ * station.h: read and write an RPM package (a recipe book) from C, and look into it.
  *
  * Link with libstation.a; no other library is needed.
  *
- * Lending. Every call gets a whole package as a pointer and a length, reads
+ * Lending. Every call that reads gets a whole package as a pointer and a length;
+ * station_write gets a name and lists of entries in the same way. A call reads
  * nothing outside those bytes, changes none of them, and keeps nothing: when it
- * returns, the memory is yours again. station_read also gets a dose buffer; it
- * writes there, and only when it accepts. There is no state and nothing to free,
- * and calls may run at the same time, each with a dose buffer of its own. The
- * bytes may be anything, of any length; no call asks you to test them first, and
- * none fails otherwise than by its answer. No pointer may be NULL, and the dose
- * buffer must not overlap the package. An empty package or buffer is any other
+ * returns, the memory is yours again. station_read also gets a dose buffer,
+ * station_write a package buffer; they write there, and only when they succeed.
+ * There is no state and nothing to free, and calls may run at the same time, each
+ * with a buffer of its own. The bytes may be anything, of any length; no call asks
+ * you to test them first, and none fails otherwise than by its answer. No pointer
+ * may be NULL, and a buffer must not overlap anything else that is lent with it.
+ * What is empty, be it a package, a list, its data or a buffer, is any other
  * pointer with length 0 (for an empty package the answer is number 3, place 0).
  *
  * Answers. A call answers number * 2^32 + place. Number 0 is success. Any other
- * number is the first check that the package, or the question, did not pass:
+ * number is the first check that the package, the question, or what is to be
+ * written did not pass:
  *
  *   number  meaning                                      place
  *    0      station_read: accepted                       how many doses
  *           look-ups: found                              file offset of the bytes
+ *           station_write: written                       the package's length
  *    1      the edition is neither 1 nor 2               0
  *    2      the package is longer than 65,536 bytes      0
  *    3      it is shorter than a lead, 96 bytes          its length
@@ -62,15 +66,22 @@
  *                                                        needed: two per dose
  *   25      no record has that tag and that type         0
  *   26      the entry has no element of that number      0
+ *   32      the name, a list or an entry is none that    0
+ *           can be written
+ *   33      the package would be longer than 65,536      0
+ *           bytes
+ *   34      the package buffer is too short              how many bytes are needed
  *
  * Places of 4 to 13 are offsets from the package's first byte, those of 20 to 22
- * from the book's first byte; those of 14 to 19 and 23 are tags.
+ * from the book's first byte; those of 14 to 19 and 23 are tags. No call answers 27
+ * to 31 or a number above 34; take a number that you do not know for a refusal.
  *
  * The checks run in this order: 1 (station_read only); 2 to 4; 5 to 13 for the
  * signature; 5 to 13 for the header; then 14 to 24 for station_read, 25 and 26 for
  * look-ups. Within a structure 9 to 13 run record by record. 14 and 15 run tag by
  * tag, the signature's tags first. 20 to 22 run record by record of the book. So a
  * damaged header is reported even if you ask for an entry of the signature.
+ * station_write runs 32, 33 and 34 alone.
  */
 #ifndef STATION_H
 #define STATION_H
@@ -89,6 +100,10 @@ extern "C" {
 /* Bytes of a dose in the dose buffer, and of room for any book's doses. */
 #define STATION_DOSE_BYTES 8
 #define STATION_DOSES_ROOM (585 * STATION_DOSE_BYTES)
+
+/* Bytes of an entry in a list, and of room for any package that can be written. */
+#define STATION_ENTRY_BYTES 16
+#define STATION_PACKAGE_ROOM 65536
 
 /*
  * Which doses does the book state?
@@ -144,6 +159,64 @@ uint64_t station_find(const uint8_t *package, size_t package_len,
 uint64_t station_find_element(const uint8_t *package, size_t package_len,
                               uint32_t structure, uint32_t tag, uint32_t type,
                               uint32_t element);
+
+/*
+ * Write a package.
+ *
+ *   name, name_len         the lead's name: 1 to 65 bytes, none of them zero
+ *   signature, .._len      the list of the signature's entries; it may be empty
+ *   signature_data, .._len their data
+ *   header, .._len         the list of the header's entries
+ *   header_data, .._len    their data
+ *   package, package_len   the lent package buffer
+ *
+ * A list has 16 bytes an entry (STATION_ENTRY_BYTES): four numbers of four bytes
+ * each, big-endian, which are tag, type, count, and how many bytes its data has.
+ * The data of all entries is lent apart, in the list's order, each right behind the
+ * one before. The header entries 1000, string, "sky", and 20002, int32, 1250:
+ *
+ *                tag          type         count        bytes of data
+ *   header       00 00 03 E8  00 00 00 06  00 00 00 01  00 00 00 04
+ *                00 00 4E 22  00 00 00 04  00 00 00 01  00 00 00 04
+ *   header_data  73 6B 79 00  00 00 04 E2
+ *
+ * with header_len 32 and header_data_len 8. Data is what type and count say, no
+ * less and no more: of a fixed size, count times the element's size; of strings,
+ * so many, each with its zero byte. Nothing is aligned in what is lent.
+ *
+ * Written are the lead with the name, its free bytes zero; the signature, whose
+ * first entry is 1000, int32, the length from the header's start to the package's
+ * end, and the rest yours; zero bytes to the header's start; the header. There is no
+ * payload. Entries and data stand in the list's order, the data packed, with zero
+ * bytes where alignment asks for them. 1000 is written for you: a signature list
+ * that holds it is refused.
+ *
+ * On success the number is 0 and the place is the package's length; the bytes of
+ * the buffer behind it stay as they were. Any other number leaves every byte of the
+ * buffer as it was:
+ *
+ *   32  - the name is not 1 to 65 bytes, or has a zero byte;
+ *       - a list's length is no multiple of 16, an entry's data passes the end of
+ *         the data, or bytes of data belong to no entry;
+ *       - the signature's list is over 511 entries (512 with 1000) or holds 1000;
+ *         the header's list is empty or over 512 entries;
+ *       - an entry's type is none of 1-4 and 6-9; its count is 0, or not 1 for a
+ *         string (6) or translated string (9); an earlier entry of its list has
+ *         its tag; or its data is not exactly what type and count say
+ *   33  the package would be longer than 65,536 bytes
+ *   34  the package buffer is shorter than the package; with the place's number of
+ *       bytes, or STATION_PACKAGE_ROOM, it is written
+ *
+ * What is written passes checks 2 to 13, and 16: the look-ups show each entry with
+ * its data. Whether station_read accepts it is up to the entries: read it before
+ * you send it out. examples/make_book.c does.
+ */
+uint64_t station_write(const uint8_t *name, size_t name_len,
+                       const uint8_t *signature, size_t signature_len,
+                       const uint8_t *signature_data, size_t signature_data_len,
+                       const uint8_t *header, size_t header_len,
+                       const uint8_t *header_data, size_t header_data_len,
+                       uint8_t *package, size_t package_len);
 
 #ifdef __cplusplus
 }

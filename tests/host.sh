@@ -216,6 +216,31 @@ sed -n '/^<!-- station --refusals -->$/,/^<!-- end -->$/p' docs/REFUSALS.md | se
 sed -n 's/^ \*  *\([0-9][0-9]*\)      .*/\1/p' include/station.h > "$work/header"
 sed -n 's/^| \([0-9]*\) | .*/\1/p' "$work/out" | diff "$work/header" - || fail 'include/station.h: other numbers'
 
+# include/station.h: its lists are written, and their entries found
+sed -n '/^ \*   header  /,/^ \*   header_data  /p' include/station.h | grep -o ' [0-9A-F][0-9A-F]\b' |
+    sed 's/ /0x/;s/$/,/' > "$work/lent"
+[ "$(wc -l < "$work/lent")" = 40 ] || fail 'include/station.h: not 40 bytes of lists'
+cat > "$work/lists.c" << END
+#include <string.h>
+#include "station.h"
+
+int main(void)
+{
+    static const uint8_t header[] = {$(head -n 32 "$work/lent")};
+    static const uint8_t data[] = {$(tail -n 8 "$work/lent")};
+    uint8_t package[STATION_PACKAGE_ROOM];
+    uint64_t answer = station_write(data, 3, data, 0, data, 0, header, sizeof header, data, sizeof data, package,
+                                    sizeof package);
+    size_t length = STATION_PLACE(answer);
+    uint64_t name = station_find(package, length, 1, 1000, 6), weight = station_find(package, length, 1, 20002, 4);
+    return STATION_NUMBER(answer) != 0 || STATION_NUMBER(name) != 0 || STATION_NUMBER(weight) != 0 ||
+           memcmp(package + STATION_PLACE(name), "sky", 4) != 0 ||
+           memcmp(package + STATION_PLACE(weight), "\\0\\0\\4\\342", 4) != 0;
+}
+END
+gcc -std=c11 -O2 -Wall -Wextra -Werror -pedantic -Iinclude "$work/lists.c" "$lib" -o "$work/lists"
+"$work/lists" || fail 'include/station.h: its lists are not written'
+
 # examples/tags.h has the lines of 000's tables, but for document 01's exceptions
 awk -F ' *[|] *' '
     /^Table/ { table = substr($1, 9) + 0 }
@@ -237,6 +262,12 @@ runs 0 tests/data/house-one-region.rpm
 while IFS= read -r line; do
     grep -qxF "    $line" README.md || fail "README.md: no '$line'"
 done < "$work/out"
+
+# docs/REFUSALS.md: what its program prints
+sed -n '/^```c$/,/^```$/p' docs/REFUSALS.md | sed '/^```/d' > "$work/write.c"
+sed -n '/^```text$/,/^```$/p' docs/REFUSALS.md | sed '/^```/d' > "$work/printed"
+gcc -std=c11 -O2 -Wall -Wextra -Werror -pedantic -Iinclude "$work/write.c" "$lib" -o "$work/write"
+"$work/write" | diff "$work/printed" - || fail 'docs/REFUSALS.md: not what its program prints'
 
 # the examples of docs/REFUSALS.md
 if [ -n "$python" ]; then
