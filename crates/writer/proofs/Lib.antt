@@ -1,0 +1,5 @@
+pub mod OffsetLaws
+pub mod TurnLaws
+pub mod StructureLaws
+pub mod PackageLaws
+pub mod WriteLaws

@@ -15,6 +15,7 @@ use format::HeaderRecord;
 use format::IndexRecord;
 use format::Lead;
 use format::Verdict;
+use lists::ListRecord;
 use places::FileOffset;
 
 // The sizes of a package: the signature's store, where the header starts, the header's store, the whole length.
@@ -36,10 +37,10 @@ fn sizes_with(signature: &[u8], header: &[u8], first: usize, second: usize) -> S
     requires { ⌜ (length (now signature) / 16 ≤ 512) × (length (now header) / 16 ≤ 512) × (first ≤ 33556484) × (second ≤ 33556484) ⌝ }
     ensures { λ r. ⌜ r ≡ sizesWith (now (signature .entry)) (now (header .entry)) first second ⌝ }
 {
-    let n = lists::count(signature) + 1;
+    let n = signature.len() / ListRecord::SIZE + 1;
     let end = Lead::SIZE + (HeaderRecord::SIZE + IndexRecord::SIZE * n + first);
     let start = (end + 7) / 8 * 8;
-    let m = lists::count(header);
+    let m = header.len() / ListRecord::SIZE;
     let length = start + (HeaderRecord::SIZE + IndexRecord::SIZE * m + second);
     Sizes {
         signature: first as u32,
@@ -50,7 +51,7 @@ fn sizes_with(signature: &[u8], header: &[u8], first: usize, second: usize) -> S
 }
 
 // Refusals 33 and 34, for lists that passed 32. Data longer than a package is over the limit at once.
-fn plan(
+fn room_check(
     signature: &[u8],
     signature_data: &[u8],
     header: &[u8],
@@ -98,7 +99,9 @@ fn put_package(
     let first = sizes.signature as usize;
     let start = sizes.start as usize;
     let end = Lead::SIZE
-        + (HeaderRecord::SIZE + IndexRecord::SIZE * (lists::count(signature) + 1) + first);
+        + (HeaderRecord::SIZE
+            + IndexRecord::SIZE * (signature.len() / ListRecord::SIZE + 1)
+            + first);
     let number = sizes.length - sizes.start;
     layout::put_lead(out, name);
     structures::put_signature(out, Lead::SIZE, signature, signature_data, first, number);
@@ -121,7 +124,7 @@ pub fn write(
     if let Verdict::Fail(number, place) = v {
         return Answer::Refused(number, place);
     }
-    let found = plan(signature, signature_data, header, header_data, out.len());
+    let found = room_check(signature, signature_data, header, header_data, out.len());
     match found {
         Plan::Refused(number, place) => Answer::Refused(number, place),
         Plan::Fits(sizes) => {

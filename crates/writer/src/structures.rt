@@ -30,7 +30,7 @@ pub(crate) fn store_end(list: &[u8], row: &[u8], start: usize) -> usize
     requires { ⌜ (length (now list) / 16 ≤ 512) × (length (now row) ≤ packageLimit) × (start ≤ 4) ⌝ }
     ensures { λ r. ⌜ (r ≡ start + length (storeFrom start (entriesOf (now (list .entry)) (now (row .entry))))) × (r ≤ 33556484) ⌝ }
 {
-    let n = lists::count(list) as u32;
+    let n = (list.len() / ListRecord::SIZE) as u32;
     let mut at = 0;
     let mut filled = start;
     let mut i = 0;
@@ -69,7 +69,7 @@ fn put_index(out: &mut [u8], place: usize, start: usize, list: &[u8], row: &[u8]
     requires { ⌜ (length (now list) / 16 ≤ 512) × (length (now row) ≤ packageLimit) × (start ≤ 4) × (place + 16 * (length (now list) / 16) ≤ length (now out)) ⌝ }
     ensures { λ r. ⌜ now (out .exit) ≡ sets (now (out .entry)) place (indexFrom start (entriesOf (now (list .entry)) (now (row .entry)))) ⌝ }
 {
-    let n = lists::count(list) as u32;
+    let n = (list.len() / ListRecord::SIZE) as u32;
     let mut at = 0;
     let mut filled = start;
     let mut i = 0;
@@ -98,7 +98,7 @@ fn put_store(out: &mut [u8], place: usize, start: usize, list: &[u8], row: &[u8]
     requires { ⌜ (length (now list) / 16 ≤ 512) × (length (now row) ≤ packageLimit) × (start ≤ 4) × (place + length (storeFrom start (entriesOf (now list) (now row))) ≤ length (now out)) ⌝ }
     ensures { λ r. ⌜ now (out .exit) ≡ sets (now (out .entry)) place (storeFrom start (entriesOf (now (list .entry)) (now (row .entry)))) ⌝ }
 {
-    let n = lists::count(list) as u32;
+    let n = (list.len() / ListRecord::SIZE) as u32;
     let mut to = place;
     let mut at = 0;
     let mut filled = start;
@@ -121,7 +121,7 @@ pub(crate) fn put_structure(out: &mut [u8], place: usize, list: &[u8], row: &[u8
     requires { ⌜ (length (now list) / 16 ≤ 512) × (length (now row) ≤ packageLimit) × (size ≡ length (storeFrom 0 (entriesOf (now list) (now row)))) × (place + (16 + 16 * (length (now list) / 16) + size) ≤ length (now out)) × (size ≤ packageLimit) ⌝ }
     ensures { λ r. ⌜ now (out .exit) ≡ sets (now (out .entry)) place (structureBytes (entriesOf (now (list .entry)) (now (row .entry)))) ⌝ }
 {
-    let n = lists::count(list);
+    let n = list.len() / ListRecord::SIZE;
     put_numbers(out, place, 0x8EAD_E801, 0, n as u32, size as u32);
     let index = place + HeaderRecord::SIZE;
     put_index(out, index, 0, list, row);
@@ -140,7 +140,7 @@ pub(crate) fn put_signature(
     requires { ⌜ (length (now list) / 16 ≤ 512) × (length (now row) ≤ packageLimit) × (size ≡ 4 + length (storeFrom 4 (entriesOf (now list) (now row)))) × (place + (32 + 16 * (length (now list) / 16) + size) ≤ length (now out)) × (size ≤ packageLimit) ⌝ }
     ensures { λ r. ⌜ now (out .exit) ≡ sets (now (out .entry)) place (structureBytes (sizeEntry number ∷ entriesOf (now (list .entry)) (now (row .entry)))) ⌝ }
 {
-    let n = lists::count(list);
+    let n = list.len() / ListRecord::SIZE;
     put_numbers(out, place, 0x8EAD_E801, 0, n as u32 + 1, size as u32);
     let index = place + HeaderRecord::SIZE;
     put_numbers(out, index, reasons::SIZE_TAG, 4, 0, 1);

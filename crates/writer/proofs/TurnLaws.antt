@@ -1,0 +1,123 @@
+-- A walk over a lent list, turn by turn: the store's end (end-turn, end-spent), the index (index-turn, index-spent), the store
+-- (store-turn, store-spent, and the room that is left: data-room, store-room).
+use Prim.Native.Nat.{ℕ, _+_, _-_, _*_, _≤_, _<_}
+use mathlib.Core.Path.{_≡_, refl, sym, ap, _∙_}
+use mathlib.Core.List.{List, [], _∷_, _++_, append-assoc}
+use lib.ListN.{length, take, drop, length-append, length-replicate}
+use lib.Seq.{sets}
+use native.Mathlib.Omega.{arith}
+use Rattle.put.specs.Puts.{zeros, fourBytes}
+use Rattle.put.proofs.PutLaws.{sets-append, length-four}
+use Rattle.lists.specs.declared.ListRecord.{ListRecord}
+use Rattle.lists.specs.Lists.{ListEntry, listRecordAt, sizeAt, entryAt, entriesFrom}
+use Rattle.lists.proofs.ListLaws.{entries-step, entries-none}
+use Rattle.reasons.specs.Reasons.{recordOf}
+use Rattle.layout.specs.Layout.{recordBytes, offsetFor, dataStart, dataStop, indexFrom, storeFrom}
+
+pub index-step : (filled : ℕ) (entry : ListEntry) (rest : List ListEntry)
+    → indexFrom filled (entry ∷ rest)
+    ≡ recordBytes (recordOf entry (dataStart filled entry)) ++ indexFrom (dataStop filled entry) rest
+unfolding indexFrom
+index-step filled entry rest = refl
+
+index-none : (filled : ℕ) → indexFrom filled [] ≡ []
+unfolding indexFrom
+index-none filled = refl
+
+pub store-step : (filled : ℕ) (entry : ListEntry) (rest : List ListEntry)
+    → storeFrom filled (entry ∷ rest)
+    ≡ zeros (dataStart filled entry - filled) ++ (entry .bytes ++ storeFrom (dataStop filled entry) rest)
+unfolding storeFrom
+store-step filled entry rest = refl
+
+store-none : (filled : ℕ) → storeFrom filled [] ≡ []
+unfolding storeFrom
+store-none filled = refl
+
+-- in the shape of what is known in a turn
+module _ (list row : List ℕ) (n i at filled : ℕ) (l : i < n) {e : ListRecord} {offset : ℕ} {bytes : List ℕ}
+    (p : e ≡ listRecordAt list i) (b : bytes ≡ take (e .size) (drop at row)) (o : offset ≡ offsetFor (e .ty) filled) where
+  size-here : sizeAt list i ≡ e .size
+  size-here = rw p
+
+  bytes-here : entryAt list row i at .bytes ≡ bytes
+  bytes-here = sym (b ∙ rw p)
+
+  start-here : dataStart filled (entryAt list row i at) ≡ offset
+  start-here = sym (o ∙ rw p)
+
+  stop-here : dataStop filled (entryAt list row i at) ≡ offset + length bytes
+  stop-here = rw (start-here, bytes-here)
+
+  next : entriesFrom list row (n - (i + 1)) (i + 1) (at + sizeAt list i)
+      ≡ entriesFrom list row (n - (i + 1)) (i + 1) (at + e .size)
+  next = rw p
+
+  pub index-turn : (out : List ℕ) (place : ℕ) {v after : List ℕ}
+      → v ≡ sets out (place + 16 * i) (indexFrom filled (entriesFrom list row (n - i) i at))
+      → after ≡ sets out (place + 16 * i) (fourBytes (e .tag) (e .ty) offset (e .count))
+      → v ≡ sets after (place + 16 * (i + 1))
+      (indexFrom (offset + length bytes) (entriesFrom list row (n - (i + 1)) (i + 1) (at + e .size)))
+  index-turn out place inv g =
+      let four = fourBytes (e .tag) (e .ty) offset (e .count) in
+      let f = length-four (e .tag) (e .ty) offset (e .count) in
+      let k : place + 16 * (i + 1) ≡ place + 16 * i + length four = omega arith in
+      let here : recordBytes (recordOf (entryAt list row i at) offset) ≡ four = rw p in
+      inv
+      ∙ rw (entries-step list row n i at l) (rw (index-step filled (entryAt list row i at) _)
+      (rw (stop-here, start-here, next, here, k, g)
+      (sets-append out (place + 16 * i) four
+      (indexFrom (offset + length bytes) (entriesFrom list row (n - (i + 1)) (i + 1) (at + e .size))))))
+
+  pub store-turn : (out : List ℕ) (to : ℕ) {v after : List ℕ}
+      → v ≡ sets out to (storeFrom filled (entriesFrom list row (n - i) i at))
+      → after ≡ sets out to (zeros (offset - filled) ++ bytes)
+      → v ≡ sets after (to + (offset - filled + length bytes))
+      (storeFrom (offset + length bytes) (entriesFrom list row (n - (i + 1)) (i + 1) (at + e .size)))
+  store-turn out to inv g =
+      let rest = storeFrom (offset + length bytes) (entriesFrom list row (n - (i + 1)) (i + 1) (at + e .size)) in
+      let c = length-replicate {A = ℕ} (offset - filled) 0 in
+      let d = length-append (zeros (offset - filled)) bytes in
+      let k : to + length (zeros (offset - filled) ++ bytes) ≡ to + (offset - filled + length bytes) = omega arith in
+      inv
+      ∙ rw (entries-step list row n i at l) (rw (store-step filled (entryAt list row i at) _)
+      (rw (stop-here, start-here, bytes-here, next)
+      (rw (← append-assoc (zeros (offset - filled)) bytes rest) (sets-append out to (zeros (offset - filled) ++ bytes) rest ∙ rw (← g, k)))))
+
+  store-length : length (storeFrom filled (entriesFrom list row (n - i) i at))
+      ≡ (offset - filled) + length bytes
+      + length (storeFrom (offset + length bytes) (entriesFrom list row (n - (i + 1)) (i + 1) (at + e .size)))
+  store-length =
+      let rest = storeFrom (offset + length bytes) (entriesFrom list row (n - (i + 1)) (i + 1) (at + e .size)) in
+      let c = length-replicate {A = ℕ} (offset - filled) 0 in
+      let d = length-append (zeros (offset - filled)) (bytes ++ rest) in
+      let f = length-append bytes rest in
+      rw (entries-step list row n i at l) (rw (store-step filled (entryAt list row i at) _)
+      (rw (stop-here, start-here, bytes-here, next) (omega arith)))
+
+  pub end-turn : {v : ℕ} → v ≡ filled + length (storeFrom filled (entriesFrom list row (n - i) i at)) → filled ≤ offset
+      → v ≡ offset + length bytes
+      + length (storeFrom (offset + length bytes) (entriesFrom list row (n - (i + 1)) (i + 1) (at + e .size)))
+  end-turn inv f = let k = store-length in omega arith
+
+  module _ (to : ℕ) {room : ℕ} (r : to + length (storeFrom filled (entriesFrom list row (n - i) i at)) ≤ room) where
+    pub data-room : {end : ℕ} → end ≡ room → to + (offset - filled + length bytes) ≤ end
+    data-room h = let k = store-length in omega arith
+
+    pub store-room : to + (offset - filled + length bytes)
+        + length (storeFrom (offset + length bytes) (entriesFrom list row (n - (i + 1)) (i + 1) (at + e .size))) ≤ room
+    store-room = let k = store-length in omega arith
+
+module _ (list row : List ℕ) (n i at filled : ℕ) where
+  pub index-spent : (out : List ℕ) (place : ℕ) {v : List ℕ}
+      → v ≡ sets out place (indexFrom filled (entriesFrom list row (n - i) i at)) → n ≤ i → out ≡ v
+  index-spent out place inv l = sym (inv ∙ rw (entries-none list row n i at l, index-none filled))
+
+  pub store-spent : (out : List ℕ) (place : ℕ) {v : List ℕ}
+      → v ≡ sets out place (storeFrom filled (entriesFrom list row (n - i) i at)) → n ≤ i → out ≡ v
+  store-spent out place inv l = sym (inv ∙ rw (entries-none list row n i at l, store-none filled))
+
+  pub end-spent : {v : ℕ} → v ≡ filled + length (storeFrom filled (entriesFrom list row (n - i) i at)) → n ≤ i → filled ≡ v
+  end-spent inv l =
+      let k = ap length (store-none filled) in
+      sym (inv ∙ rw (entries-none list row n i at l) (omega arith))

@@ -1,0 +1,87 @@
+-- The four parts, one behind the other. Assumes nothing.
+use Rattle.writer.proofs.PackageLaws as laws
+use borrow.Author.Needs.{needs}
+use Rattle.writer.proofs.put_package.Statement.{statement}
+use Rattle.writer.proofs.put_package.Tie as tie
+
+cast-first : tie.Need-cast-first
+cast-first c = search needs
+
+cast-start : tie.Need-cast-start
+cast-start c = search needs
+
+add-end : tie.Need-add-end
+add-end c = search needs
+
+mul-end : tie.Need-mul-end
+mul-end c = search needs
+
+add-end-2 : tie.Need-add-end-2
+add-end-2 c = search needs
+
+add-end-3 : tie.Need-add-end-3
+add-end-3 c = search needs
+
+add-end-4 : tie.Need-add-end-4
+add-end-4 c = search needs
+
+sub-number : tie.Need-sub-number
+sub-number c = search laws.number-fits
+
+put-lead-requires : tie.Need-put-lead-requires
+put-lead-requires c κs = search needs
+
+put-signature-requires : tie.Need-put-signature-requires
+put-signature-requires c κs =
+    let start = c .before .before .before .before .before .before .before .before .before .before .before .before .before .before in
+    laws.signature-ready _ _ _ _ (start .pre .4) (start .pre .0) (start .pre .1) (start .pre .2) (start .pre .3) (start .pre .5)
+    (start .pre .6) (search needs)
+
+sub-zeros : tie.Need-sub-zeros
+sub-zeros c = search laws.gap-fits
+
+zeros-requires : tie.Need-zeros-requires
+zeros-requires c κs = search needs
+
+cast-put-structure : tie.Need-cast-put-structure
+cast-put-structure c = search needs
+
+put-structure-requires : tie.Need-put-structure-requires
+put-structure-requires c κs =
+    let start = c .before .before .before .before .before .before .before .before .before .before .before .before .before .before .before .before .before .before .before .before .before .before .before in
+    laws.header-ready _ _ _ _ (start .pre .4) (start .pre .0) (start .pre .1) (start .pre .2) (start .pre .3) (start .pre .5)
+    (start .pre .6) (search needs)
+
+same-length : tie.Need-same-length
+same-length c = search needs
+
+returns : tie.Need-returns
+returns c =
+    let o4 = c .before .before in
+    let o3 = o4 .before .before .before .before .before in
+    let o2 = o3 .before .before .before .before in
+    let o1 = o2 .before .before .before .before in
+    let start = c .before .before .before .before .before .before .before .before .before .before .before .before .before .before .before .before .before .before .before .before .before .before .before .before .before .before in
+    laws.package-put _ _ _ _ (start .pre .4) (start .args .out .now) (start .args .name .now)
+    (o1 .put-lead .ensures) (o2 .put-signature .ensures) (o3 .zeros .ensures) (o4 .put-structure .ensures)
+
+pub put-package-spec : {M : Type 1} → statement M
+put-package-spec =
+    tie.close
+    (tie.spec
+    cast-first
+    cast-start
+    add-end
+    mul-end
+    add-end-2
+    add-end-3
+    add-end-4
+    sub-number
+    put-lead-requires
+    put-signature-requires
+    sub-zeros
+    zeros-requires
+    cast-put-structure
+    put-structure-requires
+    same-length
+    returns)

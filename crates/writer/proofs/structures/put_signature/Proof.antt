@@ -1,0 +1,94 @@
+-- Header record, index and store, one behind the other, 1000 first in index and store. Assumes nothing.
+use Rattle.writer.proofs.StructureLaws as laws
+use borrow.Author.Needs.{needs}
+use Rattle.writer.proofs.structures.put_signature.Statement.{statement}
+use Rattle.writer.proofs.structures.put_signature.Tie as tie
+
+cast-put-numbers : tie.Need-cast-put-numbers
+cast-put-numbers c = search needs
+
+add-put-numbers : tie.Need-add-put-numbers
+add-put-numbers c = search needs
+
+cast-put-numbers-2 : tie.Need-cast-put-numbers-2
+cast-put-numbers-2 c = search needs
+
+put-numbers-requires : tie.Need-put-numbers-requires
+put-numbers-requires c κs = search needs
+
+add-index : tie.Need-add-index
+add-index c = search needs
+
+put-numbers-requires-2 : tie.Need-put-numbers-requires-2
+put-numbers-requires-2 c κs = search needs
+
+add-put-index : tie.Need-add-put-index
+add-put-index c = search needs
+
+put-index-requires : tie.Need-put-index-requires
+put-index-requires c κs = search needs
+
+add-store : tie.Need-add-store
+add-store c = search needs
+
+mul-store : tie.Need-mul-store
+mul-store c = search needs
+
+add-store-2 : tie.Need-add-store-2
+add-store-2 c = search needs
+
+number-requires : tie.Need-number-requires
+number-requires c κs = search needs
+
+add-put-store : tie.Need-add-put-store
+add-put-store c = search needs
+
+put-store-requires : tie.Need-put-store-requires
+put-store-requires c κs = search needs
+
+same-length : tie.Need-same-length
+same-length c = search needs
+
+returns : tie.Need-returns
+returns c =
+    let o5 = c .before .before in
+    let o4 = o5 .before .before .before .before in
+    let o3 = o4 .before .before .before .before in
+    let o2 = o3 .before .before .before .before in
+    let o1 = o2 .before .before .before .before in
+    let start = o1 .before .before .before .before .before in
+    laws.signature-put
+    (start .args .out .now)
+    (start .args .place)
+    (start .args .list .now)
+    (start .args .row .now)
+    _
+    (start .args .size)
+    (start .args .number)
+    (start .pre .2)
+    (o1 .put-numbers .ensures)
+    (o2 .put-numbers2 .ensures)
+    (o3 .put-index .ensures)
+    (o4 .number .ensures)
+    (o5 .put-store .ensures)
+
+pub put-signature-spec : {M : Type 1} → statement M
+put-signature-spec =
+    tie.close
+    (tie.spec
+    cast-put-numbers
+    add-put-numbers
+    cast-put-numbers-2
+    put-numbers-requires
+    add-index
+    put-numbers-requires-2
+    add-put-index
+    put-index-requires
+    add-store
+    mul-store
+    add-store-2
+    number-requires
+    add-put-store
+    put-store-requires
+    same-length
+    returns)

@@ -1,0 +1,93 @@
+-- Entry by entry. Assumes nothing.
+use Prim.Native.Nat.{_≤_, _+_, _-_, _*_}
+use mathlib.Core.Path.{_≡_}
+use lib.ListN.{length}
+use lib.Seq.{sets}
+use native.Mathlib.Nat.{sub-zero}
+use Rattle.lists.specs.Lists.{entriesFrom}
+use Rattle.layout.specs.Layout.{storeFrom}
+use Rattle.writer.proofs.TurnLaws as laws
+use borrow.Author.Needs.{needs}
+use Rattle.writer.proofs.structures.put_store.Statement.{statement}
+use Rattle.writer.proofs.structures.put_store.Tie as tie
+
+abbrev Inv-loop : tie.InvT-loop
+Inv-loop out₀ place start list row n to₀ at₀ filled₀ i₀ out to at filled i = (i ≤ n) × (at ≤ 4294967295 * i) × (filled ≤ 4 + 65540 * i) × (to + length (storeFrom filled (entriesFrom list row (n - i) i at)) ≤ length out₀) × (sets out₀ place (storeFrom start (entriesFrom list row n 0 0)) ≡ sets out to (storeFrom filled (entriesFrom list row (n - i) i at))) × (length out ≡ length out₀)
+
+abbrev μ-loop : tie.MeasureT-loop
+μ-loop out₀ place start list row n to₀ at₀ filled₀ i₀ out to at filled i = n - i
+
+cast-n : tie.Need-cast-n Inv-loop μ-loop
+cast-n c = search needs
+
+loop-holds : tie.Need-loop-holds Inv-loop μ-loop
+loop-holds c = (search needs, search needs, search needs, simp sub-zero (search needs), simp sub-zero, search needs)
+
+entry-requires : tie.Need-entry-requires Inv-loop μ-loop
+entry-requires c κs = search needs
+
+bytes-requires : tie.Need-bytes-requires Inv-loop μ-loop
+bytes-requires c κs = search needs
+
+offset-for-requires : tie.Need-offset-for-requires Inv-loop μ-loop
+offset-for-requires c κs = search needs
+
+sub-gap : tie.Need-sub-gap Inv-loop μ-loop
+sub-gap c = search needs
+
+put-data-requires : tie.Need-put-data-requires Inv-loop μ-loop
+put-data-requires c κs = search laws.data-room
+
+add-to : tie.Need-add-to Inv-loop μ-loop
+add-to c = search needs
+
+add-to-2 : tie.Need-add-to-2 Inv-loop μ-loop
+add-to-2 c = search needs
+
+add-filled : tie.Need-add-filled Inv-loop μ-loop
+add-filled c = search needs
+
+cast-at : tie.Need-cast-at Inv-loop μ-loop
+cast-at c = search needs
+
+add-at : tie.Need-add-at Inv-loop μ-loop
+add-at c = search needs
+
+add-i : tie.Need-add-i Inv-loop μ-loop
+add-i c = search needs
+
+loop-less : tie.Need-loop-less Inv-loop μ-loop
+loop-less c = search needs
+
+loop-again : tie.Need-loop-again Inv-loop μ-loop
+loop-again c = (search needs, search needs, search needs, search laws.store-room, search laws.store-turn, search needs)
+
+same-length : tie.Need-same-length Inv-loop μ-loop
+same-length c = search needs
+
+returns : tie.Need-returns Inv-loop μ-loop
+returns c = search laws.store-spent
+
+pub put-store-spec : {M : Type 1} → statement M
+put-store-spec =
+    tie.close
+    (tie.spec
+    Inv-loop
+    μ-loop
+    cast-n
+    loop-holds
+    entry-requires
+    bytes-requires
+    offset-for-requires
+    sub-gap
+    put-data-requires
+    add-to
+    add-to-2
+    add-filled
+    cast-at
+    add-at
+    add-i
+    loop-less
+    loop-again
+    same-length
+    returns)
