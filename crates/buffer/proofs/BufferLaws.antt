@@ -1,15 +1,14 @@
--- Stores in a buffer (out-of-room, sets-append, sets-past), those of a dose (two-numbers, of-dose), and a walk that stores a
--- book's doses however they are spelled, for each way through it (turn-remark, turn-weighed, done, full). For callers:
--- numbers-room, at-front.
+-- Stores of a dose in a buffer (two-numbers, of-dose), and a walk that stores a book's doses however they are spelled, for each
+-- way through it (turn-remark, turn-weighed, done, full). For callers: numbers-room.
 use Prim.Native.Nat.{ℕ, suc, _+_, _-_, _*_, _≤_, _<_}
 use mathlib.Core.Path.{_≡_, refl, sym, _∙_}
 use mathlib.Core.List.{List, [], _∷_, _++_}
 use mathlib.Core.Bool.{Bool, true, false}
-use lib.ListN.{length, set, drop}
-use lib.Seq.{sets, sets-eq, set-out}
-use native.Mathlib.Nat.{add-zero}
+use lib.ListN.{length, set}
+use lib.Seq.{sets}
 use native.Mathlib.Numerals.{add-one}
 use native.Mathlib.Omega.{arith}
+use Rattle.put.proofs.PutLaws.{sets-append, sets-past}
 use Rattle.book.specs.declared.dose.Dose.{Dose}
 use Rattle.book.specs.Kinds.{isWeighed, bodySize}
 use Rattle.book.specs.Book.{kindAt, placesFrom, doseAt}
@@ -17,20 +16,6 @@ use Rattle.book.specs.Doses.{dosesOf}
 use Rattle.book.proofs.PlaceLaws.{end-of}
 use Rattle.book.proofs.RecordsLaws.{weighed, remark, no-doses}
 use Rattle.buffer.specs.Buffer.{numbersPerDose, numbersOf}
-
-pub out-of-room : (out : List ℕ) (i n : ℕ) → length out ≤ i → out ≡ set out i n
-out-of-room out i n h = sym (set-out out i n h)
-
-pub sets-append : (out : List ℕ) (i : ℕ) (xs ys : List ℕ)
-    → sets out i (xs ++ ys) ≡ sets (sets out i xs) (i + length xs) ys
-sets-append out i [] ys = rw add-zero
-sets-append out i (x ∷ xs) ys =
-    let e : i + suc (length xs) ≡ suc i + length xs = omega arith in
-    rw e (sets-append (set out i x) (suc i) xs ys)
-
-pub sets-past : (out : List ℕ) (i : ℕ) (xs : List ℕ) → length out ≤ i → sets out i xs ≡ out
-sets-past out i [] h = refl
-sets-past out i (x ∷ xs) h = let e = set-out out i x h in rw e (sets-past out (suc i) xs (omega arith))
 
 pub two-numbers : (out : List ℕ) (i : ℕ) (dose : Dose) {o₁ o₂ : List ℕ} → o₁ ≡ set out i (dose .oxide .0)
     → o₂ ≡ set o₁ (i + 1) (dose .milligrams .0) → o₂ ≡ sets out i (numbersOf (dose ∷ []))
@@ -78,11 +63,8 @@ module _ (spell : List Dose → List ℕ) where
 pub full : (out left : List ℕ) (i : ℕ) {v : List ℕ} → v ≡ sets out i left → length out ≤ i → out ≡ v
 full out left i inv h = sym (inv ∙ sets-past out i left h)
 
--- for callers: how much room the doses take, and what they leave where there is room
+-- for callers: how much room the doses take
 pub numbers-room : (ds : List Dose) → length (numbersOf ds) ≡ numbersPerDose * length ds
 unfolding numbersOf
 numbers-room [] = refl
 numbers-room (dose ∷ rest) = let k = numbers-room rest in omega arith
-
-pub at-front : (out vs : List ℕ) → length vs ≤ length out → sets out 0 vs ≡ vs ++ drop (length vs) out
-at-front out vs h = let e : 0 + length vs ≡ length vs = omega arith in sets-eq vs out 0 (omega arith) ∙ rw e

@@ -6,13 +6,15 @@ use mathlib.Core.List.{List, [], _∷_}
 use lib.ListN.{getD}
 use lib.Seq.{sets}
 use native.Mathlib.Omega.{arith}
+use Rattle.put.specs.Puts.{bytesOf}
 use Rattle.book.specs.Book.{doseAt}
 use Rattle.book.proofs.DoseLaws.{oxide-joined, milligrams-joined}
 use Rattle.buffer.specs.Buffer.{numbersOf}
-use Rattle.octets.specs.Octets.{bytesPerNumber, bytesOf, numberBytes}
+use Rattle.octets.specs.Octets.{bytesPerNumber, numberBytes}
 use Rattle.octets.proofs.OctetLaws.{eight-bytes}
 
 oxide-bytes : (a b : ℕ) → a < 256 → b < 256 → bytesOf (a * 256 + b) ≡ 0 ∷ 0 ∷ a ∷ b ∷ []
+unfolding bytesOf
 oxide-bytes a b p q =
     let k₁ : (a * 256 + b) / 16777216 % 256 ≡ 0 = omega arith in
     let k₂ : (a * 256 + b) / 65536 % 256 ≡ 0 = omega arith in
@@ -22,6 +24,7 @@ oxide-bytes a b p q =
 
 milligrams-bytes : (a b c d : ℕ) → a < 256 → b < 256 → c < 256 → d < 256
     → bytesOf (a * 16777216 + b * 65536 + c * 256 + d) ≡ a ∷ b ∷ c ∷ d ∷ []
+unfolding bytesOf
 milligrams-bytes a b c d p q r s =
     let n : ℕ = a * 16777216 + b * 65536 + c * 256 + d in
     let k₁ : n / 16777216 % 256 ≡ a = omega arith in

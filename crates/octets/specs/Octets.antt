@@ -1,7 +1,8 @@
 -- Document 01: a book's doses in a lent buffer of bytes, for C.
-use Prim.Native.Nat.{ℕ, _*_, _/_, _%_}
+use Prim.Native.Nat.{ℕ, _*_}
 use mathlib.Core.List.{List, [], _∷_, _++_}
 use lib.Seq.{sets}
+use Rattle.put.specs.Puts.{bytesOf}
 use Rattle.book.specs.Doses.{doses}
 use Rattle.buffer.specs.Buffer.{numbersPerDose, numbersOf}
 
@@ -11,9 +12,6 @@ bytesPerNumber = 4
 
 abbrev pub bytesPerDose : ℕ
 bytesPerDose = bytesPerNumber * numbersPerDose
-
-abbrev pub bytesOf : ℕ → List ℕ
-bytesOf n = n / 16777216 % 256 ∷ n / 65536 % 256 ∷ n / 256 % 256 ∷ n % 256 ∷ []
 
 unfoldable pub numberBytes : List ℕ → List ℕ
 numberBytes [] = []

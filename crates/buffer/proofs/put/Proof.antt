@@ -1,6 +1,6 @@
 -- A place at or past the end has nothing to store.
 -- Assumes nothing.
-use Rattle.buffer.proofs.BufferLaws as laws
+use Rattle.put.proofs.PutLaws as laws
 use borrow.Author.Needs.{needs}
 use Rattle.buffer.proofs.put.Statement.{statement}
 use Rattle.buffer.proofs.put.Tie as tie

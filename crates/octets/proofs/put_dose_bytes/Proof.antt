@@ -1,4 +1,4 @@
--- From the body where book and buffer have it whole; else the two numbers, one behind the other. Assumes nothing.
+-- From the body where the book has it whole; else the two numbers, one behind the other. Assumes nothing.
 use mathlib.Core.List.{List}
 use Rattle.book.specs.declared.dose.Dose.{Dose}
 use Rattle.buffer.specs.Buffer.{numbersOf}
@@ -8,9 +8,6 @@ use Rattle.octets.proofs.OctetLaws as laws
 use borrow.Author.Needs.{needs}
 use Rattle.octets.proofs.put_dose_bytes.Statement.{statement}
 use Rattle.octets.proofs.put_dose_bytes.Tie as tie
-
-add-end : tie.Need-add-end
-add-end c = search needs
 
 put-body-requires : tie.Need-put-body-requires
 put-body-requires c κs = search needs
@@ -24,17 +21,17 @@ returns c = search needs
 at-requires : tie.Need-at-requires
 at-requires c κs = search needs
 
-cast-put-number : tie.Need-cast-put-number
-cast-put-number c = search needs
+cast-number : tie.Need-cast-number
+cast-number c = search needs
 
-put-number-requires : tie.Need-put-number-requires
-put-number-requires c κs = search needs
+number-requires : tie.Need-number-requires
+number-requires c κs = search needs
 
-add-put-number : tie.Need-add-put-number
-add-put-number c = search needs
+add-number : tie.Need-add-number
+add-number c = search needs
 
-put-number-requires-2 : tie.Need-put-number-requires-2
-put-number-requires-2 c κs = search needs
+number-requires-2 : tie.Need-number-requires-2
+number-requires-2 c κs = search needs
 
 same-length-2 : tie.Need-same-length-2
 same-length-2 c = search needs
@@ -46,14 +43,13 @@ pub put-dose-bytes-spec : {M : Type 1} → statement M
 put-dose-bytes-spec =
     tie.close
     (tie.spec
-    add-end
     put-body-requires
     same-length
     returns
     at-requires
-    cast-put-number
-    put-number-requires
-    add-put-number
-    put-number-requires-2
+    cast-number
+    number-requires
+    add-number
+    number-requires-2
     same-length-2
     returns-2)
