@@ -1,18 +1,22 @@
 -- Bytes that stand in a list from a place on (Holds): their parts (front, rest), and the byte, the part, the number, the four
--- numbers and the strings that are read there.
+-- numbers and the strings that are read there. The first byte from a place on, and those behind it: next-byte.
 use Prim.Native.Nat.{ℕ, zero, suc, _+_, _*_, _/_, _%_, _≤_, _<_}
 use mathlib.Core.Path.{_≡_, refl, sym, ap, _∙_}
-use mathlib.Core.List.{List, [], _++_, append-assoc, append-nil}
+use mathlib.Core.List.{List, [], _∷_, _++_, append-assoc, append-nil}
 use mathlib.Core.Bool.{Bool, true, false, cond}
 use lib.ListN.{length, getD, take, drop, length-append, List·getD-append}
-use lib.Seq.{getD-append-add, drop-at, take-append-seam}
+use lib.Seq.{getD-append-add, drop-at, drop-cons, take-append-seam}
 use lib.Dec.{eqb}
 use native.Mathlib.Omega.{arith}
+use native.Mathlib.Numerals.{add-one}
 use Rattle.be.specs.Numbers.{be32At}
 use Rattle.strings.specs.declared.Ending.{Ending}
 use Rattle.strings.specs.declared.Ending.the-variants.{Ends}
 use Rattle.strings.specs.Strings.{stringsFrom}
 use Rattle.put.specs.Puts.{bytesOf, fourBytes}
+
+pub next-byte : (s : List ℕ) (k : ℕ) → k < length s → drop k s ≡ getD s k 0 ∷ drop (k + 1) s
+next-byte s k l = drop-cons s k 0 l ∙ rw (add-one k)
 
 pub record Holds (p : List ℕ) (k : ℕ) (xs : List ℕ) : Type 0 where
   pub before : List ℕ

@@ -1,18 +1,23 @@
--- Lists as they are lent. The numbers of a list's entries are 32 bits wide (wide); a list of entries, lent, is well-formed
--- and has just those entries (lent-form, lent-entries); and a well-formed list is its entries, lent (form-lent).
+-- Lists as they are lent. The numbers of a list's entries are 32 bits wide (wide-of); a list of entries, lent, is well-formed
+-- and has just those entries (lent-form, lent-entries), so that writing it is accepted and writes them (lent-accepted,
+-- lent-written); and a well-formed list is its entries, lent (form-lent).
 use Prim.Native.Nat.{ℕ, zero, suc, _+_, _*_, _/_, _%_, _≤_, _<_}
 use mathlib.Core.Path.{_≡_, refl, sym, ap, _∙_}
 use mathlib.Core.List.{List, [], _∷_, _++_, append-assoc}
 use lib.ListN.{length, getD, take, drop, length-append, length-take, length-drop, take-append-drop, drop-of-length-le}
-use lib.Seq.{drop-cons, drop-drop, length-take-le}
+use lib.Seq.{drop-drop, length-take-le}
 use native.Mathlib.Omega.{arith}
-use native.Mathlib.Numerals.{add-one}
 use Rattle.be.specs.Numbers.{be32At}
+use Rattle.format.specs.Sizes.{packageLimit}
 use Rattle.put.specs.Puts.{bytesOf, fourBytes}
 use Rattle.lists.specs.Lists.{ListEntry, listOf, rowOf, sizeAt, entryAt, entriesFrom, entriesOf, sizesFrom}
+use Rattle.reasons.specs.Reasons.{sizeEntry}
+use Rattle.layout.specs.Layout.{written}
+use Rattle.writer.specs.Writing.{writtenOf}
+use Rattle.roundtrip.specs.Lawful.{LawfulName}
 use Rattle.roundtrip.specs.Theorems.{Octets}
-use Rattle.roundtrip.proofs.HoldsLaws.{Holds, all, front, rest, moved, part, four-length, four}
-use Rattle.roundtrip.proofs.ReasonLaws.{FormRight}
+use Rattle.roundtrip.proofs.HoldsLaws.{next-byte, Holds, all, front, rest, moved, part, four-length, four}
+use Rattle.roundtrip.proofs.ReasonLaws.{ListRight, FormRight, Accepted}
 use Rattle.roundtrip.proofs.RecordLaws.{WideEntry}
 use Rattle.roundtrip.proofs.StructureLaws.{Wide}
 
@@ -26,7 +31,7 @@ pub wide-step : (entry : ListEntry) (rest : List ListEntry) → WideEntry entry 
 wide-step entry rest h f zero l = h
 wide-step entry rest h f (suc i) l = f i (omega arith)
 
-pub wide : (list row : List ℕ) → Octets list → (n i at : ℕ) → Wide (entriesFrom list row n i at)
+wide : (list row : List ℕ) → Octets list → (n i at : ℕ) → Wide (entriesFrom list row n i at)
 unfolding entriesFrom
 wide list row o zero i at = λ k l. absurd (omega arith)
 wide list row o (suc n) i at =
@@ -36,6 +41,9 @@ wide list row o (suc n) i at =
     wide-step (entryAt list row i at) (entriesFrom list row n (i + 1) (at + size))
     (small list o (16 * i), small list o (16 * i + 4), small list o (16 * i + 8), omega arith)
     (wide list row o n (i + 1) (at + size))
+
+pub wide-of : (list row : List ℕ) → Octets list → Wide (entriesOf list row)
+wide-of list row o = wide list row o (length list / 16) 0 0
 
 -- a list of entries, lent
 list-length : (entries : List ListEntry) → length (listOf entries) ≡ 16 * length entries
@@ -89,6 +97,26 @@ module _ (entries : List ListEntry) (w : Wide entries) where
   pub lent-form : FormRight (listOf entries) (rowOf entries)
   lent-form = let k = list-length entries in record { whole = omega arith; meet = rw number-of (both-lent .1) }
 
+-- two lists of entries, lent
+module _ (name : List ℕ) (signature header : List ListEntry) (ws : Wide signature) (wh : Wide header) where
+  pub lent-written : writtenOf name (listOf signature) (rowOf signature) (listOf header) (rowOf header)
+      ≡ written name signature header
+  lent-written = rw (lent-entries signature ws, lent-entries header wh)
+
+  pub lent-accepted : (room : ℕ) → LawfulName name → ListRight (sizeEntry 0 ∷ signature) → ListRight header
+      → length (written name signature header) ≤ packageLimit → length (written name signature header) ≤ room
+      → Accepted name (listOf signature) (rowOf signature) (listOf header) (rowOf header) room
+  lent-accepted room n s h l m =
+      record {
+        signedForm = lent-form signature ws;
+        headedForm = lent-form header wh;
+        named = n;
+        signed = rw (lent-entries signature ws) s;
+        headed = rw (lent-entries header wh) h;
+        limit = rw lent-written l;
+        fits = rw lent-written m;
+      }
+
 -- the other way round: four bytes are those of their number
 bytes-back : (a b c d : ℕ) → a < 256 → b < 256 → c < 256 → d < 256
     → bytesOf (a * 16777216 + b * 65536 + c * 256 + d) ≡ a ∷ b ∷ c ∷ d ∷ []
@@ -102,20 +130,19 @@ bytes-back a b c d la lb lc ld =
     rw (e1, e2, e3, e4)
 
 module _ (s : List ℕ) (o : Octets s) where
-  next-byte : (k : ℕ) → k < length s → drop k s ≡ getD s k 0 ∷ drop (k + 1) s
-  next-byte k l = drop-cons s k 0 l ∙ rw (add-one k)
-
   next-number : (k : ℕ) → k + 4 ≤ length s → drop k s ≡ bytesOf (be32At s k) ++ drop (k + 4) s
   unfolding be32At
   next-number k l =
       let e2 : k + 1 + 1 ≡ k + 2 = omega arith in
       let e3 : k + 2 + 1 ≡ k + 3 = omega arith in
       let e4 : k + 3 + 1 ≡ k + 4 = omega arith in
-      let b0 = next-byte k (omega arith) in
-      let b1 = rw e2 at (next-byte (k + 1) (omega arith)) in
-      let b2 = rw e3 at (next-byte (k + 2) (omega arith)) in
-      let b3 = rw e4 at (next-byte (k + 3) (omega arith)) in
-      let back = bytes-back (getD s k 0) (getD s (k + 1) 0) (getD s (k + 2) 0) (getD s (k + 3) 0) (o k) (o (k + 1)) (o (k + 2)) (o (k + 3)) in
+      let b0 = next-byte s k (omega arith) in
+      let b1 = rw e2 at (next-byte s (k + 1) (omega arith)) in
+      let b2 = rw e3 at (next-byte s (k + 2) (omega arith)) in
+      let b3 = rw e4 at (next-byte s (k + 3) (omega arith)) in
+      let back =
+      bytes-back (getD s k 0) (getD s (k + 1) 0) (getD s (k + 2) 0) (getD s (k + 3) 0) (o k) (o (k + 1)) (o (k + 2))
+      (o (k + 3)) in
       rw (b0, b1, b2, b3, back)
 
   next-four : (k : ℕ) → k + 16 ≤ length s

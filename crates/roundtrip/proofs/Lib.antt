@@ -9,3 +9,6 @@ pub mod NumberLaws
 pub mod WroteLaws
 pub mod LentLaws
 pub mod Trips
+pub mod TextLaws
+pub mod LawfulLaws
+pub mod Accepted

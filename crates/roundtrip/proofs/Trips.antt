@@ -18,7 +18,7 @@ use Rattle.roundtrip.proofs.ReasonLaws.{ListRight, list-right, size-rig
 use Rattle.roundtrip.proofs.StructureLaws.{Wide}
 use Rattle.roundtrip.proofs.PackageLaws.{Writable, reads-back}
 use Rattle.roundtrip.proofs.WroteLaws.{done, stands}
-use Rattle.roundtrip.proofs.LentLaws.{wide-step, wide, lent-entries, lent-form}
+use Rattle.roundtrip.proofs.LentLaws.{wide-step, wide-of, lent-written, lent-accepted}
 
 -- the signature's list with the right number
 with-size : (signature header : List ListEntry) → ListRight (sizeEntry 0 ∷ signature) → ListRight (withSize signature header)
@@ -40,41 +40,16 @@ module _ (name signature signatureRow header headerRow : List ℕ) (room : ℕ) 
   abbrev headed : List ListEntry
   headed = entriesOf header headerRow
 
-  wide-signed : Wide signed
-  wide-signed = wide signature signatureRow os (length signature / 16) 0 0
-
-  wide-headed : Wide headed
-  wide-headed = wide header headerRow oh (length header / 16) 0 0
-
   writable : Writable name signed headed
   writable =
       record {
         named = a .named;
         signed = with-size signed headed (a .signed);
         headed = a .headed;
-        wideSigned = wide-size signed headed wide-signed;
-        wideHeaded = wide-headed;
+        wideSigned = wide-size signed headed (wide-of signature signatureRow os);
+        wideHeaded = wide-of header headerRow oh;
         limit = a .limit;
       }
-
-  -- the same entries, lent anew
-  again : (more : ℕ) → length (writtenOf name signature signatureRow header headerRow) ≤ more
-      → writeCheck name (listOf signed) (rowOf signed) (listOf headed) (rowOf headed) more ≡ Pass
-  again more l =
-      accepted name (listOf signed) (rowOf signed) (listOf headed) (rowOf headed) more .1
-      (record {
-        signedForm = lent-form signed wide-signed;
-        headedForm = lent-form headed wide-headed;
-        named = a .named;
-        signed = rw (lent-entries signed wide-signed) (a .signed);
-        headed = rw (lent-entries headed wide-headed) (a .headed);
-        limit = rw (lent-entries signed wide-signed, lent-entries headed wide-headed) (a .limit);
-        fits = rw (lent-entries signed wide-signed, lent-entries headed wide-headed) l;
-      })
-
-  same : writtenOf name (listOf signed) (rowOf signed) (listOf headed) (rowOf headed)
-      ≡ writtenOf name signature signatureRow header headerRow
-  same = rw (lent-entries signed wide-signed, lent-entries headed wide-headed)
 
 pub read-back : ReadBack
 read-back name signature signatureRow header headerRow before after answer n os oh w h =
@@ -94,8 +69,13 @@ write-again name signature signatureRow header headerRow before after answer n o
     let r = read-back name signature signatureRow header headerRow before after answer n os oh w h .reads in
     let e : behindFirst (shown (take n after) 0) ≡ entriesOf signature signatureRow = ap behindFirst (r .signed) in
     let f : shown (take n after) 1 ≡ entriesOf header headerRow = r .headed 1 (λ q. omega arith) in
+    let ws = wide-of signature signatureRow os in
+    let wh = wide-of header headerRow oh in
+    let signed = entriesOf signature signatureRow in
+    let headed = entriesOf header headerRow in
+    let b = lent-written name signed headed ws wh in
     let v =
-    again name signature signatureRow header headerRow (length before) os oh a (length before′) (omega arith) in
-    let b = same name signature signatureRow header headerRow (length before) os oh a in
+    accepted name (listOf signed) (rowOf signed) (listOf headed) (rowOf headed) (length before′) .1
+    (lent-accepted name signed headed ws wh (length before′) (a .named) (a .signed) (a .headed) (a .limit) (omega arith)) in
     let t = stands (rw (e, f) at w′) n v (ap length b ∙ d .1) in
     (t .0, t .1 ∙ b ∙ sym (s .1), t .2)
