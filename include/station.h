@@ -145,6 +145,13 @@ uint64_t station_find_element(const uint8_t *package, size_t package_len,
                               uint32_t structure, uint32_t tag, uint32_t type,
                               uint32_t element);
 
+uint64_t station_write(const uint8_t *name, size_t name_len,
+                       const uint8_t *signature, size_t signature_len,
+                       const uint8_t *signature_data, size_t signature_data_len,
+                       const uint8_t *header, size_t header_len,
+                       const uint8_t *header_data, size_t header_data_len,
+                       uint8_t *package, size_t package_len);
+
 #ifdef __cplusplus
 }
 #endif
