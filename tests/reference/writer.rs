@@ -32,8 +32,8 @@ struct Layout<'a> {
 
 /// Type and count are lawful, and the data is exactly what they say.
 fn check_entry(record: &Record, data: &[u8]) -> Checked<()> {
-    let lawful = elements(record.ty).is_some();
-    check(32, lawful && record.count_is_right(), 0)?;
+    check(32, elements(record.ty).is_some(), 0)?;
+    check(32, record.count_is_right(), 0)?;
     let count = record.count as usize;
     let right = match elements(record.ty) {
         Some(Elements::Sized(size)) => data.len() == size * count,
@@ -79,8 +79,8 @@ impl<'a> Layout<'a> {
                 count: be32(numbers, 8),
             };
             check_entry(&record, data)?;
-            let mut earlier = self.entries.iter();
-            check(32, earlier.all(|(other, _)| other.tag != record.tag), 0)?;
+            let repeats = |(earlier, _): &(Record, _)| earlier.tag == record.tag;
+            check(32, !self.entries.iter().any(repeats), 0)?;
             self.put(record, data);
         }
         check(32, rest.is_empty(), 0)
