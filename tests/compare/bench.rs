@@ -115,6 +115,8 @@ pub struct Bench {
     pub comparisons: usize,
     /// How often each number was the answer.
     pub numbers: BTreeMap<u32, usize>,
+    /// The same for writings alone.
+    pub writings: BTreeMap<u32, usize>,
     /// How often 32 was the answer for a reason, where the reason is known.
     pub reasons: BTreeMap<&'static str, usize>,
 }
@@ -168,6 +170,7 @@ impl Bench {
             packages: 0,
             comparisons: 0,
             numbers: BTreeMap::new(),
+            writings: BTreeMap::new(),
             reasons: BTreeMap::new(),
         };
         CURRENT.store(&mut *bench.current, Ordering::SeqCst);
@@ -239,6 +242,12 @@ impl Bench {
     pub fn agree(&mut self, answer: Answer) {
         self.comparisons += 1;
         *self.numbers.entry(answer.number()).or_default() += 1;
+    }
+
+    /// One more writing that agrees.
+    pub fn agree_writing(&mut self, answer: Answer) {
+        self.agree(answer);
+        *self.writings.entry(answer.number()).or_default() += 1;
     }
 
     /// One more refusal for this reason.

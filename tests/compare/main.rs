@@ -25,6 +25,7 @@ mod real;
 mod shapes;
 mod writing;
 
+use std::collections::BTreeMap;
 use std::path::{Path, PathBuf};
 use std::time::Instant;
 
@@ -41,6 +42,8 @@ const NUMBERS: &[u32] = if cfg!(reading) {
 } else {
     &[0, 2, 3, 4, 5, 6, 7, 8, 9, 10, 11, 12, 13, 25, 26, 32, 33, 34]
 };
+/// Those of the writer.
+const WRITING: [u32; 4] = [0, 32, 33, 34];
 const LEAST_COMPARISONS: usize = 100_000;
 
 fn main() {
@@ -106,19 +109,24 @@ fn all(data: &Path, report: PathBuf) {
         "compare: {} answers on {} packages and lists agree, {lines} of them with rpm ({seconds:.1} s)",
         bench.comparisons, bench.packages
     );
-    let counts: Vec<String> = NUMBERS
-        .iter()
-        .map(|number| format!("{number}: {}", bench.numbers.get(number).unwrap_or(&0)))
-        .collect();
-    println!("compare: answers by number: {}", counts.join(", "));
+    by_number("answers", NUMBERS, &bench.numbers);
+    by_number("writings", &WRITING, &bench.writings);
     for reason in writing::REASONS {
         let count = bench.reasons.get(reason).unwrap_or(&0);
-        println!("compare: 32, {reason}: {count}");
-        assert!(*count > 0, "no case was refused for it");
+        println!("compare: lists refused with 32, {reason}: {count}");
+        assert!(*count > 0, "no list was refused for it");
     }
-    let missing = NUMBERS
-        .iter()
-        .find(|number| !bench.numbers.contains_key(number));
-    assert!(missing.is_none(), "no case gave the number {missing:?}");
     assert!(bench.comparisons >= LEAST_COMPARISONS, "too few cases");
+}
+
+/// How often each number was the answer; each must have been.
+fn by_number(what: &str, all: &[u32], numbers: &BTreeMap<u32, usize>) {
+    let count = |number| numbers.get(number).unwrap_or(&0);
+    let counts: Vec<String> = all
+        .iter()
+        .map(|number| format!("{number}: {}", count(number)))
+        .collect();
+    println!("compare: {what} by number: {}", counts.join(", "));
+    let missing = all.iter().find(|number| *count(number) == 0);
+    assert!(missing.is_none(), "no case gave the number {missing:?}");
 }

@@ -80,7 +80,7 @@ FAULTS = [
     (32, "fewer strings accepted", STRINGS, "data.ends_with(&[0]) && zeros(data) <= count"),
     (32, "strings counted in 16 bits", STRINGS, "data.ends_with(&[0]) && zeros(data) as u16 == count as u16"),
     (32, "empty strings refused", STRINGS, STRINGS + " && data[0] != 0"),
-    (32, "repeated tag accepted", REPEATED, ""),
+    (32, "repeated tag accepted", REPEATED, REPEATED.replace("!self", "true || !self")),
     (32, "only the entry before", "self.entries.iter().any(repeats)",
      "self.entries.iter().rev().take(1).any(repeats)"),
     (32, "first entry missed", "self.entries.iter().any(repeats)", "self.entries.iter().skip(1).any(repeats)"),

@@ -177,7 +177,7 @@ impl<'a> Desk<'a> {
             ));
         }
         self.writings += 1;
-        self.bench.agree(answer);
+        self.bench.agree_writing(answer);
         (answer, after.to_vec())
     }
 
@@ -186,7 +186,6 @@ impl<'a> Desk<'a> {
         self.lend(lent);
         if let Err(reason) = known {
             self.bench.note(reason);
-            self.bench.because(reason);
         }
         let needed = match known {
             Ok(package) => package.len().min(LIMIT),
@@ -201,6 +200,9 @@ impl<'a> Desk<'a> {
             _ => random.below(needed),
         };
         self.write(room, Some(known));
+        if let Err(reason) = known {
+            self.bench.because(reason);
+        }
     }
 
     /// Lists of which nothing is known.
