@@ -22,6 +22,8 @@ $cc tests/c/find_test.c "$lib" -o "$out/find_test"
 if [ -n "$reading" ]; then
     $cc tests/c/read_test.c "$lib" -o "$out/read_test"
     "$out/read_test" tests/data
+    $cc tests/c/write_test.c "$lib" -o "$out/write_test"
+    "$out/write_test"
 fi
 
 echo "tests: the C calls, compared with the reference"

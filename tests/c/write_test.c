@@ -70,12 +70,12 @@ static const uint8_t *at_fence(int which, const uint8_t *bytes, size_t count)
 
 static uint64_t call(uint8_t *buffer, size_t room)
 {
-    const struct list *first = &lists[SIGNATURE], *second = &lists[HEADER];
+    const struct list *one = &lists[SIGNATURE], *two = &lists[HEADER];
     return station_write(at_fence(0, name, name_len), name_len,
-                         at_fence(1, first->entries, first->entries_len), first->entries_len,
-                         at_fence(2, first->data, first->data_len), first->data_len,
-                         at_fence(3, second->entries, second->entries_len), second->entries_len,
-                         at_fence(4, second->data, second->data_len), second->data_len,
+                         at_fence(1, one->entries, one->entries_len), one->entries_len,
+                         at_fence(2, one->data, one->data_len), one->data_len,
+                         at_fence(3, two->entries, two->entries_len), two->entries_len,
+                         at_fence(4, two->data, two->data_len), two->data_len,
                          buffer, room);
 }
 
@@ -194,14 +194,16 @@ static void whole_book(void)
     /* H is 168, and the header has 37 records; "C" is first. */
     expect("locales", station_find(lend(), length, 1, 100, 8), 0, 168 + 16 + 37 * 16);
     expect("weight", station_find(lend(), length, 1, 20002, 4), 0, (uint32_t)length - 4);
-    if (memcmp(package + 10, "book-1-1", 9) != 0 || memcmp(doses, "\0\0\0\33\0\0\4\342", 8) != 0) {
+    if (memcmp(package + 10, "book-1-1", 9) != 0 ||
+        memcmp(doses, "\0\0\0\33\0\0\4\342", 8) != 0) {
         fprintf(stderr, PROGRAM ": the book's name or dose\n");
         exit(1);
     }
 }
 
 /* One wrong entry, in either list. */
-static void wrong_entry(const char *what, uint32_t type, uint32_t count, const void *data, size_t size)
+static void wrong_entry(const char *what, uint32_t type, uint32_t count, const void *data,
+                        size_t size)
 {
     for (int structure = SIGNATURE; structure <= HEADER; structure++) {
         smallest();
@@ -250,12 +252,15 @@ static void wrong_tags(void)
 
 static void wrong_names(void)
 {
-    static const uint8_t long_name[67] = "nnnnnnnnnnnnnnnnnnnnnnnnnnnnnnnnnnnnnnnnnnnnnnnnnnnnnnnnnnnnnnnnnn";
+    uint8_t long_name[66];
+    memset(long_name, 'n', sizeof long_name);
     smallest();
     set_name("", 0);
     refused("empty name");
     set_name(long_name, 66);
     refused("name of 66 bytes");
+    set_name(long_name, 65);
+    expect("name of 65 bytes", call(package, 65536), 0, 169);
     set_name("b", 2);
     refused("zero byte at the name's end");
     set_name("b\0k", 3);

@@ -288,21 +288,46 @@ fn repeated_tags(desk: &mut Desk, random: &mut Random) {
     }
 }
 
-/// Extreme numbers in each field of each entry.
+/// Extreme numbers in each field of each entry; of a tag it is known what comes of it.
 fn extreme_numbers(desk: &mut Desk, random: &mut Random) {
     for _ in 0..25 {
-        let lent = small(random).lent();
+        let lists = small(random);
         for structure in [SIGNATURE, HEADER] {
-            let part = numbers(structure);
-            for at in (0..lent.0[part].len()).step_by(4) {
-                for number in EXTREMES {
-                    let mut lent = lent.clone();
-                    lent.0[part][at..at + 4].copy_from_slice(&number.to_be_bytes());
-                    desk.unknown(random, &lent);
+            for at in 0..lists.entries[structure].len() {
+                for number in EXTREMES.into_iter().chain([999, 1000, 1001]) {
+                    extreme_tag(desk, random, &lists, structure, at, number);
+                    for field in 1..4 {
+                        let mut lent = lists.lent();
+                        let place = 16 * at + 4 * field;
+                        let list = &mut lent.0[numbers(structure)];
+                        list[place..place + 4].copy_from_slice(&number.to_be_bytes());
+                        desk.unknown(random, &lent);
+                    }
                 }
             }
         }
     }
+}
+
+fn extreme_tag(
+    desk: &mut Desk,
+    random: &mut Random,
+    lists: &Lists,
+    structure: usize,
+    at: usize,
+    tag: u32,
+) {
+    let mut lists = lists.clone();
+    lists.entries[structure][at].tag = tag;
+    let same = |entry: &&Entry| entry.tag == tag;
+    let known = if structure == SIGNATURE && tag == 1000 {
+        Err(wrong::OWN_1000)
+    } else if lists.entries[structure].iter().filter(same).count() > 1 {
+        Err(wrong::REPEATED)
+    } else {
+        Ok(lists.package())
+    };
+    desk.case(random, &lists.lent(), &known);
 }
 
 /// Changes some bytes, cuts a part off, or makes it longer.
