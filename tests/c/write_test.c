@@ -1,9 +1,10 @@
 /*
  * The writer as a host program in C calls it, with exact answers and bytes.
  *
- *   write_test
+ *   write_test FILE
  *
- * Name, lists, data and buffer each end right before a page that faults.
+ * Name, lists, data and buffer each end right before a page that faults. A whole book
+ * is left in the file.
  */
 #define PROGRAM "write_test"
 #include "package.h"
@@ -171,8 +172,17 @@ static void alignment(void)
     written("alignment");
 }
 
+static void leave(const char *path)
+{
+    FILE *file = fopen(path, "wb");
+    if (file == NULL || fwrite(package, 1, length, file) != length || fclose(file) != 0) {
+        perror(path);
+        exit(1);
+    }
+}
+
 /* A whole book: written, read at edition 2, looked into. */
-static void whole_book(void)
+static void whole_book(const char *path)
 {
     static uint8_t buffer[4096];
     uint8_t doses[STATION_DOSES_ROOM];
@@ -199,6 +209,7 @@ static void whole_book(void)
         fprintf(stderr, PROGRAM ": the book's name or dose\n");
         exit(1);
     }
+    leave(path);
 }
 
 /* One wrong entry, in either list. */
@@ -352,11 +363,15 @@ static void limit(void)
     }
 }
 
-int main(void)
+int main(int count, char **words)
 {
+    if (count != 2) {
+        fprintf(stderr, PROGRAM " FILE\n");
+        return 2;
+    }
     smallest_package();
     alignment();
-    whole_book();
+    whole_book(words[1]);
     wrong_entries();
     wrong_tags();
     wrong_names();

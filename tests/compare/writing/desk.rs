@@ -215,7 +215,7 @@ impl<'a> Desk<'a> {
 
 /// Shows both writings, to look into a difference.
 pub fn show(lent: &Lent, room: usize) {
-    println!("name {:?}", String::from_utf8_lossy(&lent.0[NAME]));
+    println!("name \"{}\"", lent.0[NAME].escape_ascii());
     for (structure, title) in [(SIGNATURE, "signature"), (HEADER, "header")] {
         let (list, data) = (&lent.0[numbers(structure)], &lent.0[data(structure)]);
         println!("{title}: {} bytes, {} of data", list.len(), data.len());

@@ -150,6 +150,9 @@ fn sizes(desk: &mut Desk, random: &mut Random) {
     }
     for structure in [SIGNATURE, HEADER] {
         let large = lists_of_size(random, structure, 7, 70_000);
+        for wrong in wrong::names(&large, random) {
+            desk.case(random, &wrong.lent, &Err(wrong.reason));
+        }
         for wrong in wrong::all(&small(random), random) {
             if wrong.structure != Some(structure) {
                 let lent = wrong.lent.with_list(structure, &large.lent());
@@ -216,7 +219,7 @@ fn each_wrong(desk: &mut Desk, random: &mut Random) {
     }
     // In the last of many entries.
     for _ in 0..3 {
-        let lists = lists(random, [100, 150], 3);
+        let lists = lists(random, [50, 60], 3);
         let wrongs = wrong::all(&lists, random);
         for _ in 0..400 {
             let wrong = &wrongs[random.below(wrongs.len())];
