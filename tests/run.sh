@@ -22,6 +22,13 @@ $cc tests/c/find_test.c "$lib" -o "$out/find_test"
 if [ -n "$reading" ]; then
     $cc tests/c/read_test.c "$lib" -o "$out/read_test"
     "$out/read_test" tests/data
+    $cc tests/c/write_test.c "$lib" -o "$out/write_test"
+    "$out/write_test" "$out/written.rpm"
+    if command -v rpm > /dev/null; then
+        said=$(rpm -qp --nodigest --nosignature \
+            --qf '%{name} %{version} %{os} [%{requirename}] [%{filenames}] %{sigsize}' "$out/written.rpm" 2> "$out/rpm.log")
+        [ "$said" = "book 1 linux glass /srv/book 768" ] || { echo "tests: rpm reads $said" >&2; exit 1; }
+    fi
 fi
 
 echo "tests: the C calls, compared with the reference"

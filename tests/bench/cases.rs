@@ -1,11 +1,13 @@
-//! What is measured: a package and a call on it.
+//! What is measured: a package and a call on it, or a call that writes it.
 
 use std::hint::black_box;
 use std::path::Path;
 
+use reference::writer::write_for_c;
 use reference::{reading, Record};
 
 use crate::librpm;
+use crate::lists::{lent, Lists};
 use crate::packages::{accepted, free, Order, Plan, ORDERS, USUAL};
 
 extern "C" {
@@ -25,6 +27,20 @@ extern "C" {
         ty: u32,
         element: u32,
     ) -> u64;
+    fn station_write(
+        name: *const u8,
+        name_len: usize,
+        signature: *const u8,
+        signature_len: usize,
+        signature_data: *const u8,
+        signature_data_len: usize,
+        header: *const u8,
+        header_len: usize,
+        header_data: *const u8,
+        header_data_len: usize,
+        package: *mut u8,
+        package_len: usize,
+    ) -> u64;
 }
 
 #[derive(Clone, Copy)]
@@ -35,6 +51,8 @@ pub enum Call {
     Find(u32, u32, u32),
     /// Structure, tag, type, element.
     Element(u32, u32, u32, u32),
+    /// The package from its lists.
+    Write,
 }
 
 #[derive(Clone, Copy, PartialEq, Eq)]
@@ -47,13 +65,18 @@ pub enum Side {
 /// Those that answer alike.
 const ANSWERING: [Side; 2] = [Side::Library, Side::Reference];
 
-/// A dose buffer with room for any book's doses.
-#[derive(PartialEq)]
-pub struct Doses(Vec<u8>);
+/// Room for any package.
+const ROOM: usize = 65_536;
+/// Room for any book's doses.
+const DOSES: usize = 585 * 8;
 
-impl Doses {
-    pub fn new() -> Doses {
-        Doses(vec![0xA5; 585 * 8])
+/// What is written to: doses at its front, or a package.
+#[derive(PartialEq)]
+pub struct Buffer(Vec<u8>);
+
+impl Buffer {
+    pub fn new() -> Buffer {
+        Buffer(vec![0xA5; ROOM])
     }
 }
 
@@ -62,30 +85,57 @@ pub struct Case {
     pub group: &'static str,
     pub name: String,
     pub package: Vec<u8>,
+    /// What the package is written from; empty for other calls.
+    lists: Lists,
     call: Call,
 }
 
 impl Case {
     #[inline(never)]
-    fn library(&self, Doses(doses): &mut Doses) -> u64 {
+    fn library(&self, Buffer(buffer): &mut Buffer) -> u64 {
         let package = black_box(&self.package[..]);
         let (at, len) = (package.as_ptr(), package.len());
         match black_box(self.call) {
             Call::Read(edition) => unsafe {
-                station_read(edition, at, len, doses.as_mut_ptr(), doses.len())
+                station_read(edition, at, len, buffer.as_mut_ptr(), DOSES)
             },
             Call::Find(structure, tag, ty) => unsafe { station_find(at, len, structure, tag, ty) },
             Call::Element(structure, tag, ty, element) => unsafe {
                 station_find_element(at, len, structure, tag, ty, element)
             },
+            Call::Write => self.library_writes(buffer),
+        }
+    }
+
+    fn library_writes(&self, buffer: &mut [u8]) -> u64 {
+        let Lists {
+            name,
+            signature: [signature, signature_data],
+            header: [header, header_data],
+        } = black_box(&self.lists);
+        unsafe {
+            station_write(
+                name.as_ptr(),
+                name.len(),
+                signature.as_ptr(),
+                signature.len(),
+                signature_data.as_ptr(),
+                signature_data.len(),
+                header.as_ptr(),
+                header.len(),
+                header_data.as_ptr(),
+                header_data.len(),
+                buffer.as_mut_ptr(),
+                buffer.len(),
+            )
         }
     }
 
     #[inline(never)]
-    fn reference(&self, Doses(doses): &mut Doses) -> u64 {
+    fn reference(&self, Buffer(buffer): &mut Buffer) -> u64 {
         let package = black_box(&self.package[..]);
         match black_box(self.call) {
-            Call::Read(edition) => reading::read_for_c(edition, package, doses),
+            Call::Read(edition) => reading::read_for_c(edition, package, &mut buffer[..DOSES]),
             Call::Find(structure, tag, ty) => {
                 reference::answer(&reference::find(package, structure, tag, ty))
             }
@@ -93,7 +143,14 @@ impl Case {
                 let part = reference::find_element(package, structure, tag, ty, element);
                 reference::answer(&part)
             }
+            Call::Write => self.reference_writes(buffer),
         }
+    }
+
+    fn reference_writes(&self, buffer: &mut [u8]) -> u64 {
+        let lists = black_box(&self.lists);
+        let [signature, header] = [&lists.signature, &lists.header].map(lent);
+        write_for_c(&lists.name, signature, header, buffer)
     }
 
     #[inline(never)]
@@ -127,19 +184,19 @@ impl Case {
     }
 
     /// One call.
-    pub fn run(&self, side: Side, doses: &mut Doses) -> u64 {
+    pub fn run(&self, side: Side, buffer: &mut Buffer) -> u64 {
         match side {
-            Side::Library => self.library(doses),
-            Side::Reference => self.reference(doses),
+            Side::Library => self.library(buffer),
+            Side::Reference => self.reference(buffer),
             Side::Librpm => self.librpm(),
         }
     }
 
-    /// The answer; library and reference must agree on it and on the doses.
+    /// The answer; library and reference must agree on it and on what they write.
     pub fn answer(&self) -> u64 {
         let [library, reference] = ANSWERING.map(|side| {
-            let mut doses = Doses::new();
-            (self.run(side, &mut doses), doses)
+            let mut buffer = Buffer::new();
+            (self.run(side, &mut buffer), buffer)
         });
         assert!(library == reference, "{}: the answers differ", self.name);
         library.0
@@ -151,7 +208,39 @@ fn read(group: &'static str, name: String, package: Vec<u8>) -> Case {
         group,
         name,
         package,
+        lists: Lists::default(),
         call: Call::Read(2),
+    }
+}
+
+/// Writings of the entries that accepted packages have.
+pub fn writings() -> Vec<Case> {
+    let files = Plan {
+        files: 300,
+        ..USUAL
+    };
+    let mut cases = Vec::new();
+    for records in [64, 512] {
+        for (order, name) in ORDERS {
+            let package = accepted(records, order, &USUAL);
+            let name = format!("{records} records, {name} tags");
+            cases.push(write("writing", name, &package));
+        }
+    }
+    let package = accepted(64, Order::Rising, &files);
+    cases.push(write("writing", "64 records, 300 files".into(), &package));
+    cases
+}
+
+/// A writing of what a package has.
+fn write(group: &'static str, name: String, package: &[u8]) -> Case {
+    let lists = Lists::of(package);
+    Case {
+        group,
+        name,
+        package: lists.package(),
+        lists,
+        call: Call::Write,
     }
 }
 
@@ -245,6 +334,7 @@ pub fn look_ups() -> Vec<Case> {
                 group,
                 name: format!("{records} records, {name}"),
                 package: package.clone(),
+                lists: Lists::default(),
                 call,
             });
         }
@@ -270,6 +360,7 @@ pub fn data(folder: &Path) -> Vec<Case> {
                 group,
                 name: path.file_name().unwrap().to_string_lossy().into_owned(),
                 package: std::fs::read(path).unwrap(),
+                lists: Lists::default(),
                 call,
             });
         }
@@ -277,7 +368,7 @@ pub fn data(folder: &Path) -> Vec<Case> {
     cases
 }
 
-/// Readings of more and more records.
+/// Readings and writings of more and more records.
 pub fn growth() -> Vec<Case> {
     let mut cases = Vec::new();
     for (group, order) in [
@@ -288,6 +379,10 @@ pub fn growth() -> Vec<Case> {
             let package = accepted(records, order, &USUAL);
             cases.push(read(group, records.to_string(), package));
         }
+    }
+    for records in PER_RECORD {
+        let package = accepted(records, Order::Rising, &USUAL);
+        cases.push(write("growth writing", records.to_string(), &package));
     }
     cases
 }

@@ -5,22 +5,22 @@
 
 use std::hint::black_box;
 
-use crate::cases::{Case, Doses, Side};
+use crate::cases::{Buffer, Case, Side};
 
 #[no_mangle]
 #[inline(never)]
-fn counted_call(case: &Case, side: Side, doses: &mut Doses) -> u64 {
-    black_box(case.run(side, doses))
+fn counted_call(case: &Case, side: Side, buffer: &mut Buffer) -> u64 {
+    black_box(case.run(side, buffer))
 }
 
 pub fn all(cases: &[Case]) {
-    let mut doses = Doses::new();
+    let mut buffer = Buffer::new();
     for case in cases {
         // Each side runs once before it is counted.
         case.answer();
         let sides = case.sides();
         for &side in &sides {
-            counted_call(case, black_box(side), &mut doses);
+            counted_call(case, black_box(side), &mut buffer);
         }
         println!("{}\t{}\t{}", case.group, case.name, sides.len());
     }

@@ -11,6 +11,7 @@ mod cases;
 mod content;
 mod counts;
 mod librpm;
+mod lists;
 #[path = "../compare/maker.rs"]
 #[allow(dead_code)]
 mod maker;
@@ -47,6 +48,7 @@ fn main() {
 fn cases(data: &str, part: &str) -> Vec<Case> {
     let mut all = cases::readings();
     all.extend(cases::look_ups());
+    all.extend(cases::writings());
     all.extend(cases::data(Path::new(data)));
     all.extend(cases::growth());
     all.retain(|case| format!("{} {}", case.group, case.name).contains(part));

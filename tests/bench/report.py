@@ -125,6 +125,8 @@ def librpm_count(case, counts):
 def answer_cell(case):
     if case.number:
         return f'refused {case.number} at {case.place}'
+    if 'writing' in case.group:
+        return 'written'
     if 'reading' in case.group or 'growth' in case.group:
         return f'{case.place} doses' if case.place != 1 else '1 dose'
     return 'found'
@@ -269,6 +271,20 @@ def growth(cases, counts):
     return table(head, rows, left=0)
 
 
+def writing(cases, more, counts):
+    """Writings, then those of more and more records; librpm has none."""
+    yield '## Writing'
+    yield from case_tables('Lists', cases, counts)
+    rows = [
+        [case.name, f'{case.bytes:,}', time_cell(case.library), time_cell(case.reference),
+         f'{case.ratio.middle:.2f}', *count_cells(counts.get((case.group, case.name)))]
+        for case in more
+    ]
+    head = ['Records, rising tags', 'Bytes', 'Library, µs', 'Reference, µs', 'Ratio by rounds',
+            'Instructions, library', 'Reference', 'Ratio']
+    yield table(head, rows, left=0)
+
+
 def rest(folder):
     """What follows; the long tables last."""
     run, cases = read_times(folder)
@@ -288,6 +304,7 @@ def rest(folder):
         ('The test data: one look-up of tag 1126', 'Package', 'data look-up'),
     ]:
         yield '\n\n'.join([f'## {title}', *case_tables(what, of(group), counts)])
+    yield '\n\n'.join(writing(of('writing'), of('growth writing'), counts))
     for order in ('rising', 'shuffled'):
         yield f'## More and more records, {order} tags\n\n' + growth(of(f'growth {order}'), counts)
 

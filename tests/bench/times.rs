@@ -3,7 +3,7 @@
 
 use std::hint::black_box;
 
-use crate::cases::{Case, Doses, Side};
+use crate::cases::{Buffer, Case, Side};
 use crate::librpm;
 
 /// How long a batch takes at least.
@@ -39,19 +39,19 @@ fn pin() -> bool {
 }
 
 /// The time of so many calls.
-fn batch(case: &Case, side: Side, calls: usize, doses: &mut Doses) -> f64 {
+fn batch(case: &Case, side: Side, calls: usize, buffer: &mut Buffer) -> f64 {
     let begun = now();
     for _ in 0..calls {
-        black_box(case.run(side, doses));
+        black_box(case.run(side, buffer));
     }
     now() - begun
 }
 
 /// How many calls fill a batch.
-fn calls(case: &Case, side: Side, doses: &mut Doses) -> usize {
+fn calls(case: &Case, side: Side, buffer: &mut Buffer) -> usize {
     let mut calls = 1;
     loop {
-        let time = batch(case, side, calls, doses);
+        let time = batch(case, side, calls, buffer);
         if time >= BATCH {
             return calls;
         }
@@ -85,15 +85,15 @@ pub fn all(cases: &[Case]) {
     println!("batches\t{ROUNDS}");
     println!("milliseconds\t{}", BATCH / 1e6);
     println!("librpm\t{}", librpm::version());
-    let mut doses = Doses::new();
+    let mut buffer = Buffer::new();
     let mut measured: Vec<Measured> = cases
         .iter()
-        .map(|case| Measured::new(case, &mut doses))
+        .map(|case| Measured::new(case, &mut buffer))
         .collect();
     // All cases in each round, so that a slow while of the machine falls on all.
     for round in 0..ROUNDS {
         for one in &mut measured {
-            one.round(round, &mut doses);
+            one.round(round, &mut buffer);
         }
     }
     for one in measured {
@@ -116,10 +116,10 @@ struct Measured<'a> {
 }
 
 impl<'a> Measured<'a> {
-    fn new(case: &'a Case, doses: &mut Doses) -> Measured<'a> {
+    fn new(case: &'a Case, buffer: &mut Buffer) -> Measured<'a> {
         let timed = |side| Timed {
             side,
-            calls: calls(case, side, doses),
+            calls: calls(case, side, buffer),
             times: Vec::new(),
         };
         Measured {
@@ -130,11 +130,11 @@ impl<'a> Measured<'a> {
     }
 
     /// A batch of each side; another one goes first in each round.
-    fn round(&mut self, round: usize, doses: &mut Doses) {
+    fn round(&mut self, round: usize, buffer: &mut Buffer) {
         let sides = self.sides.len();
         for turn in 0..sides {
             let timed = &mut self.sides[(round + turn) % sides];
-            let time = batch(self.case, timed.side, timed.calls, doses);
+            let time = batch(self.case, timed.side, timed.calls, buffer);
             timed.times.push(time / timed.calls as f64);
         }
     }

@@ -82,7 +82,8 @@ static void put_structure(const uint32_t (*records)[4], size_t count, const void
     length += size;
 }
 
-static void read_package(const char *folder, const char *name)
+/* Not every test reads files. */
+__attribute__((unused)) static void read_package(const char *folder, const char *name)
 {
     char path[4096];
     snprintf(path, sizeof path, "%s/%s", folder, name);

@@ -115,6 +115,10 @@ pub struct Bench {
     pub comparisons: usize,
     /// How often each number was the answer.
     pub numbers: BTreeMap<u32, usize>,
+    /// The same for writings alone.
+    pub writings: BTreeMap<u32, usize>,
+    /// How often 32 was the answer for a reason, where the reason is known.
+    pub reasons: BTreeMap<&'static str, usize>,
 }
 
 /// The bench's `current`, for the handler of signals.
@@ -166,6 +170,8 @@ impl Bench {
             packages: 0,
             comparisons: 0,
             numbers: BTreeMap::new(),
+            writings: BTreeMap::new(),
+            reasons: BTreeMap::new(),
         };
         CURRENT.store(&mut *bench.current, Ordering::SeqCst);
         for number in [SIGILL, SIGABRT, SIGBUS, SIGSEGV, SIGALRM] {
@@ -189,13 +195,18 @@ impl Bench {
 
     /// The package that the next questions are about.
     pub fn package(&mut self, bytes: &[u8]) {
+        self.case(bytes);
+        self.lent = self.fence.lend(bytes);
+    }
+
+    /// What the next questions are about, for the report.
+    pub fn case(&mut self, bytes: &[u8]) {
         self.packages += 1;
         self.current.case += 1;
         self.current.note = "no note";
         self.current.package.clear();
         self.current.package.extend_from_slice(bytes);
         self.current.again = None;
-        self.lent = self.fence.lend(bytes);
     }
 
     /// The package that was lent.
@@ -231,6 +242,17 @@ impl Bench {
     pub fn agree(&mut self, answer: Answer) {
         self.comparisons += 1;
         *self.numbers.entry(answer.number()).or_default() += 1;
+    }
+
+    /// One more writing that agrees.
+    pub fn agree_writing(&mut self, answer: Answer) {
+        self.agree(answer);
+        *self.writings.entry(answer.number()).or_default() += 1;
+    }
+
+    /// One more refusal for this reason.
+    pub fn because(&mut self, reason: &'static str) {
+        *self.reasons.entry(reason).or_default() += 1;
     }
 
     pub fn fail(&self, difference: &str) -> ! {

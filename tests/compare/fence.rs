@@ -61,7 +61,6 @@ impl Fence {
     }
 
     /// The last bytes before the fence, to write to.
-    #[cfg(reading)]
     pub fn last(&mut self, count: usize) -> &mut [u8] {
         assert!(count <= ROOM);
         unsafe { std::slice::from_raw_parts_mut(self.0.add(ROOM - count), count) }

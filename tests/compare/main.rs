@@ -4,6 +4,7 @@
 //!     compare DATA-FOLDER REPORT-FILE [FAMILY]
 //!     compare ask PACKAGE STRUCTURE TAG TYPE [ELEMENT]
 //!     compare read PACKAGE EDITION BUFFER-LENGTH
+//!     compare write REPORT-FILE BUFFER-LENGTH
 //!
 //! The reading is compared if `--cfg reading` is set.
 
@@ -22,7 +23,9 @@ mod random;
 mod reading;
 mod real;
 mod shapes;
+mod writing;
 
+use std::collections::BTreeMap;
 use std::path::{Path, PathBuf};
 use std::time::Instant;
 
@@ -32,10 +35,15 @@ use random::Random;
 /// Every answer that the calls have.
 #[rustfmt::skip]
 const NUMBERS: &[u32] = if cfg!(reading) {
-    &[0, 1, 2, 3, 4, 5, 6, 7, 8, 9, 10, 11, 12, 13, 14, 15, 16, 17, 18, 19, 20, 21, 22, 23, 24, 25, 26]
+    &[
+        0, 1, 2, 3, 4, 5, 6, 7, 8, 9, 10, 11, 12, 13, 14, 15, 16, 17, 18, 19, 20, 21, 22, 23, 24, 25, 26,
+        32, 33, 34,
+    ]
 } else {
-    &[0, 2, 3, 4, 5, 6, 7, 8, 9, 10, 11, 12, 13, 25, 26]
+    &[0, 2, 3, 4, 5, 6, 7, 8, 9, 10, 11, 12, 13, 25, 26, 32, 33, 34]
 };
+/// Those of the writer.
+const WRITING: [u32; 4] = [0, 32, 33, 34];
 const LEAST_COMPARISONS: usize = 100_000;
 
 fn main() {
@@ -46,6 +54,9 @@ fn main() {
         [read, package, edition, room] if read == "read" => {
             let package = std::fs::read(package).unwrap();
             reading::show(&package, edition.parse().unwrap(), room.parse().unwrap());
+        }
+        [write, report, room] if write == "write" => {
+            writing::show(&std::fs::read(report).unwrap(), room.parse().unwrap());
         }
         [data, report] => all(Path::new(data), PathBuf::from(report)),
         [data, report, family] => {
@@ -84,6 +95,7 @@ fn run(bench: &mut Bench, data: &Path) -> usize {
     }
     #[cfg(reading)]
     reading::all(bench, data);
+    writing::all(bench);
     lines
 }
 
@@ -94,17 +106,27 @@ fn all(data: &Path, report: PathBuf) {
 
     let seconds = begun.elapsed().as_secs_f64();
     println!(
-        "compare: {} answers on {} packages agree, {lines} of them with rpm ({seconds:.1} s)",
+        "compare: {} answers on {} packages and lists agree, {lines} of them with rpm ({seconds:.1} s)",
         bench.comparisons, bench.packages
     );
-    let counts: Vec<String> = NUMBERS
-        .iter()
-        .map(|number| format!("{number}: {}", bench.numbers.get(number).unwrap_or(&0)))
-        .collect();
-    println!("compare: answers by number: {}", counts.join(", "));
-    let missing = NUMBERS
-        .iter()
-        .find(|number| !bench.numbers.contains_key(number));
-    assert!(missing.is_none(), "no case gave the number {missing:?}");
+    by_number("answers", NUMBERS, &bench.numbers);
+    by_number("writings", &WRITING, &bench.writings);
+    for reason in writing::REASONS {
+        let count = bench.reasons.get(reason).unwrap_or(&0);
+        println!("compare: lists refused with 32, {reason}: {count}");
+        assert!(*count > 0, "no list was refused for it");
+    }
     assert!(bench.comparisons >= LEAST_COMPARISONS, "too few cases");
+}
+
+/// How often each number was the answer; each must have been.
+fn by_number(what: &str, all: &[u32], numbers: &BTreeMap<u32, usize>) {
+    let count = |number| numbers.get(number).unwrap_or(&0);
+    let counts: Vec<String> = all
+        .iter()
+        .map(|number| format!("{number}: {}", count(number)))
+        .collect();
+    println!("compare: {what} by number: {}", counts.join(", "));
+    let missing = all.iter().find(|number| *count(number) == 0);
+    assert!(missing.is_none(), "no case gave the number {missing:?}");
 }

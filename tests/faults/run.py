@@ -4,7 +4,7 @@ the library, and sees that the comparison finds each. Run from the root:
 
     tests/faults/run.py [--alike] [--table FILE] [CHECK...]
 
-With checks (numbers, `package`, `buffer`, `demand3`), only the faults of those.
+With checks (numbers, `package`, `buffer`, `demand3`, `writer`), only the faults of those.
 With --alike the reference that is compared with gets the same fault, as if both
 had misread the paper: what is found then is found by what the maker of the
 packages knows, by demand 3, or by the reference's own samples. With --table the
@@ -24,15 +24,21 @@ import time
 
 import package_faults
 import reading_faults
+import writer_faults
 
 OUT = pathlib.Path("target/host/faults")
 REFERENCE = pathlib.Path("tests/reference")
 # Beside links to tests/compare and tests/data, which the samples include.
 COPY = OUT / "tests/reference"
 RUST = ["rustc", "--edition", "2021", "-A", "warnings", "-C", f"incremental={OUT / 'incremental'}"]
-FAULTS = package_faults.FAULTS + reading_faults.FAULTS
+FAULTS = package_faults.FAULTS + reading_faults.FAULTS + writer_faults.FAULTS
 
 CONTENT = "one damage to an accepted package"
+# The families to try for the writer's faults before all others.
+WRITING = [
+    "one wrong thing to write", "written packages", "names", "numbers of entries", "repeated tags",
+    "sizes of written packages", "buffers to write to",
+]
 # The family to try before all others; for the checks that aren't here, "one damage".
 FIRST = {
     1: "editions", 2: "sizes", 3: "cuts", 5: "cuts",
@@ -40,6 +46,7 @@ FIRST = {
     19: "lengths of books", 20: "kinds", 21: "kinds", 22: "oxides and milligrams",
     23: CONTENT, 24: "dose buffers", 25: "right packages", 26: "right packages",
     "package": "right packages", "buffer": "dose buffers", "demand3": "kinds",
+    33: "sizes of written packages", 34: "buffers to write to", "writer": "written packages",
 }
 SAMPLES = "the reference's own samples"
 
@@ -91,11 +98,17 @@ def plant(right, old, new):
         (COPY / name).write_text(text if name.endswith("samples.rs") else text.replace(old, new))
 
 
+def families(check):
+    """Those to try before all others."""
+    first = [FIRST.get(check, "one damage")]
+    return WRITING if check == 32 else first + WRITING if check in (33, 34, "writer") else first
+
+
 def find(check, alike):
     build_library()
     if alike:
         build_compare(COPY)
-    found = compare(FIRST.get(check, "one damage")) or compare()
+    found = next(filter(None, map(compare, families(check))), None) or compare()
     if alike:
         found = found or samples()
     return found

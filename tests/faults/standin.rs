@@ -45,3 +45,31 @@ pub unsafe extern "C" fn station_read(
     let doses = from_raw_parts_mut(doses, doses_len);
     reference::reading::read_for_c(edition, package, doses)
 }
+
+#[no_mangle]
+pub unsafe extern "C" fn station_write(
+    name: *const u8,
+    name_len: usize,
+    signature: *const u8,
+    signature_len: usize,
+    signature_data: *const u8,
+    signature_data_len: usize,
+    header: *const u8,
+    header_len: usize,
+    header_data: *const u8,
+    header_data_len: usize,
+    package: *mut u8,
+    package_len: usize,
+) -> u64 {
+    let name = from_raw_parts(name, name_len);
+    let signature = reference::writer::List {
+        entries: from_raw_parts(signature, signature_len),
+        data: from_raw_parts(signature_data, signature_data_len),
+    };
+    let header = reference::writer::List {
+        entries: from_raw_parts(header, header_len),
+        data: from_raw_parts(header_data, header_data_len),
+    };
+    let package = from_raw_parts_mut(package, package_len);
+    reference::writer::write_for_c(name, signature, header, package)
+}

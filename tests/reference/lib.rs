@@ -3,7 +3,7 @@
 //! Written from the papers alone, to be compared with the proved library.
 //! The order is the paper's: here lead, header structure, checks 2 to 13 and
 //! look-ups; then catalogue.rs, contents.rs (groups and texts), book.rs, and
-//! reading.rs, where all checks come together.
+//! reading.rs, where all checks come together; last writer.rs (document 02).
 //! Each check stands as `check(NUMBER, what must hold, place)`.
 
 use std::ops::Range;
@@ -12,11 +12,14 @@ pub mod book;
 pub mod catalogue;
 mod contents;
 pub mod reading;
+pub mod writer;
 
 #[cfg(test)]
 mod reading_samples;
 #[cfg(test)]
 mod samples;
+#[cfg(test)]
+mod writer_samples;
 
 // 32-bit numbers are added and multiplied as `usize`; nothing wraps.
 const _: () = assert!(usize::BITS == 64);

@@ -1,0 +1,255 @@
+"""Faults in the writer: checks 32 to 34, what is written, the buffer."""
+
+# As in package_faults.py. Texts are those of writer.rs.
+TYPE = "    check(32, elements(record.ty).is_some(), 0)?;\n"
+COUNT = "    check(32, record.count_is_right(), 0)?;\n"
+STRINGS = "data.ends_with(&[0]) && zeros(data) == count"
+REPEATS = "earlier.tag == record.tag"
+REPEATED = "            check(32, !self.entries.iter().any(repeats), 0)?;\n"
+LIST_LENGTH = "        check(32, list.entries.len() % ENTRY_SIZE == 0, 0)?;\n"
+NINDEX = "        let nindex = self.entries.len() + list.entries.len() / ENTRY_SIZE;\n"
+RANGE = "        check(32, (1..=MAX_NINDEX).contains(&nindex), 0)?;\n"
+SIZE = "            check(32, size <= rest.len(), 0)?;\n"
+LEFT_OVER = "        check(32, rest.is_empty(), 0)\n"
+NAME = (
+    "    check(32, (1..=MAX_NAME).contains(&name.len()), 0)?;\n"
+    "    check(32, !name.contains(&0), 0)?;\n"
+)
+FIRST = "    first.put(SIGSIZE, &size);\n"
+SIGNATURE = "    first.put_list(signature)?;\n"
+LAYOUT = (
+    "    let mut second = Layout::default();\n"
+    "    second.put_list(header)?;\n"
+    "    // From H to the end there is the header alone.\n"
+    "    let size = (second.size() as u32).to_be_bytes();\n"
+    "    let mut first = Layout::default();\n"
+    + FIRST + SIGNATURE + "\n"
+    "    let first_end = LEAD_SIZE + first.size();\n"
+    "    let header_start = first_end.next_multiple_of(8);\n"
+    "    let length = header_start + second.size();\n"
+)
+CHECK_33 = "    check(33, length <= MAX_PACKAGE, 0)?;\n"
+CHECK_34 = "    check(34, length <= buffer.len(), length)?;\n"
+PACKAGE = "    let package = &mut buffer[..length];\n"
+ZEROS = "    package.fill(0);\n"
+PLACE = "self.hsize.next_multiple_of(align)"
+RECORD = "            put_numbers(place, [record.tag, record.ty, record.offset, record.count]);\n"
+HEADER_RECORD = "put_numbers(header, [0x8EAD_E801, 0, nindex, self.hsize as u32])"
+DATA = "store[record.offset as usize..][..data.len()].copy_from_slice(data);"
+END = (
+    "    Ok(length as u32)\n}\n\n"
+    "/// For C: the answer is number × 2^32 + place.\npub fn write_for_c("
+)
+SIGSIZE_DATA = (
+    "    let at = LEAD_SIZE + 16 + 16 * first.entries.len();\n"
+    "    package[at..at + 4].copy_from_slice(&((VALUE) as u32).to_be_bytes());\n"
+)
+
+
+def sigsize(value):
+    """1000 holds another number."""
+    return SIGSIZE_DATA.replace("VALUE", value) + END
+
+
+FAULTS = [
+    (32, "type not tested", TYPE, ""),
+    (32, "type 10 as strings",
+     "check(32, elements(record.ty).is_some(), 0)",
+     "check(32, elements(record.ty).is_some() || record.ty == 10, 0)"),
+    (32, "type of 8 bits", "ty: be32(numbers, 4),\n                offset: 0",
+     "ty: be32(numbers, 4) & 255,\n                offset: 0"),
+    (32, "count not tested", COUNT, ""),
+    (32, "count 0 allowed",
+     "check(32, record.count_is_right(), 0)",
+     "check(32, record.count_is_right() || record.count == 0, 0)"),
+    (32, "count 2 for type 6",
+     "check(32, record.count_is_right(), 0)",
+     "check(32, record.count_is_right() || record.ty == 6, 0)"),
+    (32, "count 2 for type 9",
+     "check(32, record.count_is_right(), 0)",
+     "check(32, record.count_is_right() || record.ty == 9, 0)"),
+    (32, "type 8 held to 1",
+     "check(32, record.count_is_right(), 0)",
+     "check(32, record.count_is_right() && (record.ty != 8 || record.count == 1), 0)"),
+    (32, "data not tested", "    check(32, right, 0)\n", "    check(32, right || true, 0)\n"),
+    (32, "numbers' size not tested", "data.len() == size * count", "true"),
+    (32, "more numbers accepted", "data.len() == size * count", "data.len() >= size * count"),
+    (32, "fewer numbers accepted", "data.len() == size * count", "data.len() <= size * count"),
+    (32, "numbers of one byte", "data.len() == size * count", "data.len() == count"),
+    (32, "part of a number accepted", "data.len() == size * count", "data.len() / size == count"),
+    (32, "product in 32 bits", "data.len() == size * count",
+     "data.len() == (size as u32).wrapping_mul(count as u32) as usize"),
+    (32, "last zero not asked",
+     STRINGS, "zeros(data) + usize::from(!data.ends_with(&[0])) == count"),
+    (32, "bytes behind the last zero", STRINGS, "zeros(data) == count"),
+    (32, "strings not counted", STRINGS, "data.ends_with(&[0])"),
+    (32, "more strings accepted", STRINGS, "data.ends_with(&[0]) && zeros(data) >= count"),
+    (32, "fewer strings accepted", STRINGS, "data.ends_with(&[0]) && zeros(data) <= count"),
+    (32, "strings counted in 16 bits",
+     STRINGS, "data.ends_with(&[0]) && zeros(data) as u16 == count as u16"),
+    (32, "empty strings refused", STRINGS, STRINGS + " && data[0] != 0"),
+    (32, "repeated tag accepted", REPEATED, REPEATED.replace("!self", "true || !self")),
+    (32, "only the entry before", "self.entries.iter().any(repeats)",
+     "self.entries.iter().rev().take(1).any(repeats)"),
+    (32, "first entry missed",
+     "self.entries.iter().any(repeats)", "self.entries.iter().skip(1).any(repeats)"),
+    (32, "caller's 1000 accepted", REPEATS, REPEATS + " && record.tag != 1000"),
+    (32, "same type as well", REPEATS, REPEATS + " && earlier.ty == record.ty"),
+    (32, "tags must rise", REPEATS, "earlier.tag >= record.tag"),
+    (32, "tags of 16 bits", REPEATS, "earlier.tag as u16 == record.tag as u16"),
+    (32, "1000 refused in the header",
+     REPEATED, REPEATED.replace("!self", "record.tag != 1000 && !self")),
+    (32, "place is the tag", "any(repeats), 0)", "any(repeats), record.tag as usize)"),
+    (32, "range not tested", RANGE, ""),
+    (32, "1000 not counted", NINDEX,
+     "        let nindex = self.entries.len().max(list.entries.len() / ENTRY_SIZE);\n"),
+    (32, "1000 counted twice",
+     NINDEX, NINDEX.replace("self.entries.len()", "2 * self.entries.len()")),
+    (32, "513 allowed", RANGE, RANGE.replace("MAX_NINDEX", "513")),
+    (32, "512 refused", RANGE, RANGE.replace("MAX_NINDEX", "511")),
+    (32, "no entry allowed", RANGE, RANGE.replace("1..=", "0..=")),
+    (32, "empty signature list refused",
+     RANGE, RANGE.replace("&nindex)", "&nindex) && !list.entries.is_empty()")),
+    (32, "list's rest ignored", LIST_LENGTH, ""),
+    (32, "list a multiple of 8", LIST_LENGTH, LIST_LENGTH.replace("ENTRY_SIZE", "8")),
+    (32, "size cut to the data", SIZE, "            let size = size.min(rest.len());\n"),
+    (32, "size past the end by one", SIZE,
+     "            check(32, size <= rest.len() + 1, 0)?;\n"
+     "            let size = size.min(rest.len());\n"),
+    (32, "sizes summed in 32 bits", SIZE,
+     "            let end = list.data.len() - rest.len() + size;\n"
+     "            check(32, end as u32 as usize <= list.data.len(), 0)?;\n"),
+    (32, "size of 16 bits",
+     "be32(numbers, 12) as usize;\n            check",
+     "be32(numbers, 12) as u16 as usize;\n            check"),
+    (32, "data left over accepted", LEFT_OVER, "        Ok(())\n"),
+    (32, "data of no entry accepted",
+     LEFT_OVER, "        check(32, rest.is_empty() || list.entries.is_empty(), 0)\n"),
+    (32, "name of 66 bytes", "MAX_NAME: usize = 65", "MAX_NAME: usize = 66"),
+    (32, "name of 65 refused", "MAX_NAME: usize = 65", "MAX_NAME: usize = 64"),
+    (32, "empty name accepted", "(1..=MAX_NAME)", "(0..=MAX_NAME)"),
+    (32, "zero in the name accepted", "    check(32, !name.contains(&0), 0)?;\n", ""),
+    (32, "name's last byte not seen", "!name.contains(&0)", "!name[..name.len() - 1].contains(&0)"),
+    (32, "name's first byte not seen", "!name.contains(&0)", "!name[1..].contains(&0)"),
+    (32, "name's length of 8 bits", "contains(&name.len())", "contains(&(name.len() & 255))"),
+    (32, "name after 33", NAME + LAYOUT + CHECK_33, LAYOUT + CHECK_33 + NAME),
+    (32, "name after 34", NAME + LAYOUT + CHECK_33 + CHECK_34, LAYOUT + CHECK_33 + CHECK_34 + NAME),
+    (32, "signature after 33", SIGNATURE,
+     "    check(33, second.size() < MAX_PACKAGE, 0)?;\n" + SIGNATURE),
+
+    (33, "limit one too low", "length <= MAX_PACKAGE", "length < MAX_PACKAGE"),
+    (33, "limit one too high", "length <= MAX_PACKAGE", "length <= MAX_PACKAGE + 1"),
+    (33, "not tested", CHECK_33, ""),
+    (33, "place is the length", "length <= MAX_PACKAGE, 0", "length <= MAX_PACKAGE, length"),
+    (33, "after 34", CHECK_33 + CHECK_34, CHECK_34 + CHECK_33),
+    (33, "header alone", "length <= MAX_PACKAGE", "second.size() <= MAX_PACKAGE"),
+    (33, "number 2", "check(33,", "check(2,"),
+    (33, "buffer cleared", CHECK_33, CHECK_33.replace(
+        "    check", "    if length > MAX_PACKAGE {\n        buffer.fill(0);\n    }\n    check")),
+
+    (34, "place 0", "length <= buffer.len(), length)", "length <= buffer.len(), 0)"),
+    (34, "place is what is missing",
+     "length <= buffer.len(), length)",
+     "length <= buffer.len(), length.wrapping_sub(buffer.len()))"),
+    (34, "one byte more asked",
+     "length <= buffer.len(), length)", "length < buffer.len(), length)"),
+    (34, "one byte less asked",
+     "length <= buffer.len(), length)", "length <= buffer.len() + 1, length)"),
+    (34, "lead and signature only",
+     "length <= buffer.len(), length)", "header_start <= buffer.len(), length)"),
+    (34, "not tested", CHECK_34, ""),
+    (34, "first byte written before", CHECK_34,
+     "    if let Some(first) = buffer.first_mut() {\n        *first = 0xED;\n    }\n" + CHECK_34),
+    (34, "buffer cleared before", CHECK_34, "    buffer.fill(0);\n" + CHECK_34),
+    (34, "lead written before", CHECK_34,
+     "    if buffer.len() >= LEAD_SIZE {\n        write_lead(&mut buffer[..LEAD_SIZE], name);\n    }\n"
+     + CHECK_34),
+
+    ("writer", "1000 holds the whole length", END, sigsize("length")),
+    ("writer", "1000 holds the store's size",
+     "second.size() as u32).to_be_bytes()", "second.hsize as u32).to_be_bytes()"),
+    ("writer", "1000 counts from the signature's end", END, sigsize("length - first_end")),
+    ("writer", "1000 is little-endian",
+     "second.size() as u32).to_be_bytes()", "second.size() as u32).to_le_bytes()"),
+    ("writer", "1000 is bin",
+     "ty: INT32,\n    offset: 0,\n    count: 1,", "ty: 7,\n    offset: 0,\n    count: 4,"),
+    ("writer", "1000 last", FIRST + SIGNATURE, SIGNATURE + FIRST),
+    ("writer", "1000 left out", FIRST, ""),
+    ("writer", "not aligned", PLACE, "self.hsize"),
+    ("writer", "int32 to 2", PLACE, "self.hsize.next_multiple_of(align.min(2))"),
+    ("writer", "int16 not aligned",
+     PLACE, "self.hsize.next_multiple_of(align / 2 * align / 2 * align / 4 + 1)"),
+    ("writer", "all aligned to 4", PLACE, "self.hsize.next_multiple_of(4)"),
+    ("writer", "bin aligned to 2",
+     PLACE, "self.hsize.next_multiple_of(if record.ty == 7 { 2 } else { align })"),
+    ("writer", "a store's end padded", "self.hsize = place + data.len();",
+     "self.hsize = (place + data.len()).next_multiple_of(align);\n"
+     "        self.hsize += self.hsize % 2;"),
+    ("writer", "hsize counts the gap", HEADER_RECORD, HEADER_RECORD.replace(
+        "self.hsize as u32", "self.hsize.next_multiple_of(4) as u32")),
+    ("writer", "hsize counts the index", HEADER_RECORD, HEADER_RECORD.replace(
+        "self.hsize as u32", "(self.hsize + 16 * self.entries.len()) as u32")),
+    ("writer", "nindex without one", "let nindex = self.entries.len() as u32;",
+     "let nindex = self.entries.len().max(2) as u32 - 1;"),
+    ("writer", "structure's magic", "0x8EAD_E801", "0x8EAD_E800"),
+    ("writer", "reserved not zero", "[0x8EAD_E801, 0, nindex", "[0x8EAD_E801, 1, nindex"),
+    ("writer", "offset and count swapped", RECORD, RECORD.replace(
+        "record.offset, record.count", "record.count, record.offset")),
+    ("writer", "count of bytes", RECORD, RECORD.replace("record.count", "data.len() as u32")),
+    ("writer", "records in reverse",
+     "places.zip(&self.entries)", "places.zip(self.entries.iter().rev())"),
+    ("writer", "records by tag", "    second.put_list(header)?;\n",
+     "    second.put_list(header)?;\n    second.entries.sort_by_key(|(record, _)| record.tag);\n"),
+    ("writer", "data in another order", DATA,
+     "let after = store.len() - record.offset as usize - data.len();\n"
+     "            store[after..][..data.len()].copy_from_slice(data);"),
+    ("writer", "last byte of data left out", DATA,
+     "store[record.offset as usize..][..data.len() - 1].copy_from_slice(&data[..data.len() - 1]);"),
+    ("writer", "H not rounded up", "first_end.next_multiple_of(8)", "first_end"),
+    ("writer", "H a multiple of 4",
+     "first_end.next_multiple_of(8)", "first_end.next_multiple_of(4)"),
+    ("writer", "always some padding",
+     "first_end.next_multiple_of(8)", "(first_end + 1).next_multiple_of(8)"),
+    ("writer", "padding after the header", "header_start + second.size();",
+     "(header_start + second.size()).next_multiple_of(8);"),
+    ("writer", "a byte of payload",
+     "header_start + second.size();", "header_start + second.size() + 1;"),
+    ("writer", "gap not zeroed", ZEROS,
+     "    package[..first_end].fill(0);\n    package[header_start..].fill(0);\n"),
+    ("writer", "alignment not zeroed", ZEROS, "    package[..header_start].fill(0);\n"),
+    ("writer", "architecture not zeroed", ZEROS,
+     "    package[..8].fill(0);\n    package[10..].fill(0);\n"),
+    ("writer", "lead's last bytes not zeroed", ZEROS,
+     "    package[..80].fill(0);\n    package[LEAD_SIZE..].fill(0);\n"),
+    ("writer", "name not filled up", ZEROS,
+     "    package[..10].fill(0);\n    package[76..].fill(0);\n"),
+    ("writer", "name's last byte not zeroed", ZEROS,
+     "    package[..75].fill(0);\n    package[76..].fill(0);\n"),
+    ("writer", "nothing zeroed", ZEROS, ""),
+    ("writer", "architecture 1", "    lead[76..80]", "    lead[9] = 1;\n    lead[76..80]"),
+    ("writer", "system 0", "&[0, 1, 0, 5]", "&[0, 0, 0, 5]"),
+    ("writer", "signature type 6", "&[0, 1, 0, 5]", "&[0, 1, 0, 6]"),
+    ("writer", "minor 1", "0xDB, 3, 0]", "0xDB, 3, 1]"),
+    ("writer", "name at 8", "lead[10..10 + name.len()]", "lead[8..8 + name.len()]"),
+    ("writer", "rest of the buffer cleared", PACKAGE + ZEROS, "    buffer.fill(0);\n" + PACKAGE),
+    ("writer", "a byte behind cleared", PACKAGE,
+     "    if let Some(byte) = buffer.get_mut(length) {\n        *byte = 0;\n    }\n" + PACKAGE),
+    ("writer", "place 0", "        Ok(length) => u64::from(length),", "        Ok(_) => 0,"),
+    ("writer", "place is H", END, END.replace("Ok(length as", "Ok(header_start as")),
+    ("writer", "refuses everything", NAME, "    check(32, false, 0)?;\n" + NAME),
+    ("writer", "reads behind the name", NAME,
+     "    std::hint::black_box(unsafe { name.as_ptr().add(name.len()).read_volatile() });\n"
+     + NAME),
+    ("writer", "reads behind a list", LIST_LENGTH, LIST_LENGTH +
+     "        let end = unsafe { list.entries.as_ptr().add(list.entries.len()) };\n"
+     "        std::hint::black_box(unsafe { end.read_volatile() });\n"),
+    ("writer", "reads behind the data", LIST_LENGTH, LIST_LENGTH +
+     "        let end = unsafe { list.data.as_ptr().add(list.data.len()) };\n"
+     "        std::hint::black_box(unsafe { end.read_volatile() });\n"),
+    ("writer", "writes into the name", NAME,
+     NAME + "    unsafe { name.as_ptr().cast_mut().write_volatile(b'n') };\n"),
+    ("writer", "writes before the buffer", END,
+     "    unsafe { buffer.as_mut_ptr().sub(1).write_volatile(0) };\n" + END),
+    ("writer", "writes behind the buffer", END,
+     "    unsafe { buffer.as_mut_ptr().add(buffer.len()).write_volatile(0) };\n" + END),
+]
