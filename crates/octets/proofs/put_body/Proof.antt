@@ -5,50 +5,50 @@ use borrow.Author.Needs.{needs}
 use Rattle.octets.proofs.put_body.Statement.{statement}
 use Rattle.octets.proofs.put_body.Tie as tie
 
-add-four : tie.Need-add-four
-add-four c = search needs
+add-put-4 : tie.Need-add-put-4
+add-put-4 c = search needs
 
-shared-slice-read-four : tie.Need-shared-slice-read-four
-shared-slice-read-four c = search needs
+shared-slice-read-put-4 : tie.Need-shared-slice-read-put-4
+shared-slice-read-put-4 c = search needs
 
-add-four-2 : tie.Need-add-four-2
-add-four-2 c = search needs
+add-put-4-2 : tie.Need-add-put-4-2
+add-put-4-2 c = search needs
 
-shared-slice-read-four-2 : tie.Need-shared-slice-read-four-2
-shared-slice-read-four-2 c = search needs
+shared-slice-read-put-4-2 : tie.Need-shared-slice-read-put-4-2
+shared-slice-read-put-4-2 c = search needs
 
-four-requires : tie.Need-four-requires
-four-requires c κs = search needs
+put-4-requires : tie.Need-put-4-requires
+put-4-requires c κs = search needs
 
-add-four-3 : tie.Need-add-four-3
-add-four-3 c = search needs
+add-put-4-3 : tie.Need-add-put-4-3
+add-put-4-3 c = search needs
 
-add-four-4 : tie.Need-add-four-4
-add-four-4 c = search needs
+add-put-4-4 : tie.Need-add-put-4-4
+add-put-4-4 c = search needs
 
-shared-slice-read-four-3 : tie.Need-shared-slice-read-four-3
-shared-slice-read-four-3 c = search needs
+shared-slice-read-put-4-3 : tie.Need-shared-slice-read-put-4-3
+shared-slice-read-put-4-3 c = search needs
 
-add-four-5 : tie.Need-add-four-5
-add-four-5 c = search needs
+add-put-4-5 : tie.Need-add-put-4-5
+add-put-4-5 c = search needs
 
-shared-slice-read-four-4 : tie.Need-shared-slice-read-four-4
-shared-slice-read-four-4 c = search needs
+shared-slice-read-put-4-4 : tie.Need-shared-slice-read-put-4-4
+shared-slice-read-put-4-4 c = search needs
 
-add-four-6 : tie.Need-add-four-6
-add-four-6 c = search needs
+add-put-4-6 : tie.Need-add-put-4-6
+add-put-4-6 c = search needs
 
-shared-slice-read-four-5 : tie.Need-shared-slice-read-four-5
-shared-slice-read-four-5 c = search needs
+shared-slice-read-put-4-5 : tie.Need-shared-slice-read-put-4-5
+shared-slice-read-put-4-5 c = search needs
 
-add-four-7 : tie.Need-add-four-7
-add-four-7 c = search needs
+add-put-4-7 : tie.Need-add-put-4-7
+add-put-4-7 c = search needs
 
-shared-slice-read-four-6 : tie.Need-shared-slice-read-four-6
-shared-slice-read-four-6 c = search needs
+shared-slice-read-put-4-6 : tie.Need-shared-slice-read-put-4-6
+shared-slice-read-put-4-6 c = search needs
 
-four-requires-2 : tie.Need-four-requires-2
-four-requires-2 c κs = search needs
+put-4-requires-2 : tie.Need-put-4-requires-2
+put-4-requires-2 c κs = search needs
 
 same-length : tie.Need-same-length
 same-length c = search needs
@@ -63,20 +63,20 @@ pub put-body-spec : {M : Type 1} → statement M
 put-body-spec =
     tie.close
     (tie.spec
-    add-four
-    shared-slice-read-four
-    add-four-2
-    shared-slice-read-four-2
-    four-requires
-    add-four-3
-    add-four-4
-    shared-slice-read-four-3
-    add-four-5
-    shared-slice-read-four-4
-    add-four-6
-    shared-slice-read-four-5
-    add-four-7
-    shared-slice-read-four-6
-    four-requires-2
+    add-put-4
+    shared-slice-read-put-4
+    add-put-4-2
+    shared-slice-read-put-4-2
+    put-4-requires
+    add-put-4-3
+    add-put-4-4
+    shared-slice-read-put-4-3
+    add-put-4-5
+    shared-slice-read-put-4-4
+    add-put-4-6
+    shared-slice-read-put-4-5
+    add-put-4-7
+    shared-slice-read-put-4-6
+    put-4-requires-2
     same-length
     returns)
