@@ -1,6 +1,6 @@
 -- The entries of a lent list, turn by turn: entries-step, entries-none, and how many there are, entries-total. Their sizes
 -- together: sizes-turn, sizes-past, sizes-spent. A part is no longer than what it is a part of: part-short. An entry's 16
--- bytes from its numbers: record-read.
+-- bytes: record-read, record-past, record-whole.
 use Prim.Native.Nat.{ℕ, zero, suc, _+_, _-_, _*_, _≤_, _<_}
 use mathlib.Core.Path.{_≡_, refl, sym, ap, _∙_}
 use mathlib.Core.List.{List, [], _∷_}
@@ -8,10 +8,10 @@ use mathlib.Core.Bool.{Bool, true, false}
 use lib.ListN.{length, take, drop, length-take, length-drop}
 use lib.Dec.{eqb}
 use native.Mathlib.Omega.{arith}
-use borrow.Author.Tests.{eq-eqb, ne-eqb, eqb-true, eqb-false}
+use borrow.Author.Tests.{eq-eqb, ne-eqb, eqb-true, eqb-false, le-leb, lt-leb}
 use Rattle.be.specs.Numbers.{be32At}
 use Rattle.lists.specs.declared.ListRecord.{ListRecord}
-use Rattle.lists.specs.Lists.{ListEntry, listRecordAt, sizeAt, entryAt, entriesFrom, sizesFrom}
+use Rattle.lists.specs.Lists.{ListEntry, listRecordAt, recordShown, sizeAt, entryAt, entriesFrom, sizesFrom}
 
 module _ (list row : List ℕ) where
   step : (n i at : ℕ)
@@ -44,10 +44,22 @@ part-short s at size h =
     let g = length-drop at s in
     omega arith
 
+-- an entry's 16 bytes, which the list has or has not
 pub record-read : (list : List ℕ) (i : ℕ) {tag ty count size : ℕ} → tag ≡ be32At list (16 * i) → ty ≡ be32At list (16 * i + 4)
-    → count ≡ be32At list (16 * i + 8) → size ≡ be32At list (16 * i + 12)
-    → _≡_ {A = ListRecord} (record { tag = tag; ty = ty; count = count; size = size }) (listRecordAt list i)
-record-read list i p q r s = rw (p, q, r, s)
+    → count ≡ be32At list (16 * i + 8) → size ≡ be32At list (16 * i + 12) → 16 * i + 16 ≤ length list
+    → _≡_ {A = ListRecord} (record { tag = tag; ty = ty; count = count; size = size }) (recordShown list i)
+unfolding recordShown
+record-read list i p q r s l = rw (le-leb (16 * i + 16) (length list) l, p, q, r, s)
+
+pub record-past : (list : List ℕ) (i : ℕ) → length list < 16 * i + 16
+    → _≡_ {A = ListRecord} (record { tag = 0; ty = 0; count = 0; size = 0 }) (recordShown list i)
+unfolding recordShown
+record-past list i l = rw (lt-leb (16 * i + 16) (length list) l)
+
+pub record-whole : (list : List ℕ) (n i : ℕ) {e : ListRecord} → 16 * n ≤ length list → i < n → e ≡ recordShown list i
+    → e ≡ listRecordAt list i
+unfolding recordShown
+record-whole list n i w l p = p ∙ rw (le-leb (16 * i + 16) (length list) (omega arith))
 
 size-step : (list : List ℕ) (n i : ℕ) → sizesFrom list (suc n) i ≡ sizeAt list i + sizesFrom list n (i + 1)
 unfolding sizesFrom

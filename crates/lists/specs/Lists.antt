@@ -2,9 +2,9 @@
 -- 16 bytes an entry (tag, type, count, size of its data), and the entries' data in a row, in list order.
 use Prim.Native.Nat.{ℕ, zero, suc, _+_, _*_, _/_, _%_}
 use mathlib.Core.List.{List, [], _∷_, _++_}
-use mathlib.Core.Bool.{Bool}
+use mathlib.Core.Bool.{Bool, cond}
 use lib.ListN.{length, take, drop}
-use lib.Dec.{eqb}
+use lib.Dec.{eqb, leb}
 use Rattle.be.specs.Numbers.{be32At}
 use Rattle.put.specs.Puts.{fourBytes}
 use Rattle.lists.specs.declared.ListRecord.{ListRecord}
@@ -33,6 +33,11 @@ listRecordAt list i =
       count = be32At list (16 * i + 8);
       size = be32At list (16 * i + 12);
     }
+
+-- what is shown of entry i: zeros where the list does not have it whole
+unfoldable pub recordShown : List ℕ → ℕ → ListRecord
+recordShown list i =
+    cond (leb (16 * i + 16) (length list)) (listRecordAt list i) (record { tag = 0; ty = 0; count = 0; size = 0 })
 
 abbrev pub sizeAt : List ℕ → ℕ → ℕ
 sizeAt list i = listRecordAt list i .size

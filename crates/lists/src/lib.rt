@@ -1,8 +1,9 @@
 // A list of entries as it is lent: 16 bytes an entry, and the entries' data in a row.
 ghost use mathlib.Core.Path.{_≡_};
-ghost use Prim.Native.Nat.{_/_, _≤_, _<_};
+ghost use Prim.Native.Nat.{_+_, _/_, _≤_, _<_};
 ghost use lib.ListN.{length, take, drop};
-ghost use Rattle.lists.specs.Lists.{listRecordAt, isWhole, sizesMeet};
+ghost use Rattle.be.specs.Numbers.{be32At};
+ghost use Rattle.lists.specs.Lists.{recordShown, isWhole, sizesMeet};
 
 // The 16 bytes of an entry: its tag, type and count, and the size of its data.
 pub struct ListRecord {
@@ -23,16 +24,32 @@ pub fn count(list: &[u8]) -> usize
     list.len() / ListRecord::SIZE
 }
 
-// The 16 bytes of entry `i`.
+// The 32-bit number at a place of a list that has it whole.
+fn number(list: &[u8], at: usize) -> u32
+    requires { ⌜ at + 4 ≤ length (now list) ⌝ }
+    ensures { λ r. ⌜ r ≡ be32At (now (list .entry)) at ⌝ }
+{
+    be::join32(list[at], list[at + 1], list[at + 2], list[at + 3])
+}
+
+// The 16 bytes of entry `i`; zeros where the list does not have it whole.
 pub fn entry(list: &[u8], i: u32) -> ListRecord
-    ensures { λ r. ⌜ r ≡ listRecordAt (now (list .entry)) i ⌝ }
+    ensures { λ r. ⌜ r ≡ recordShown (now (list .entry)) i ⌝ }
 {
     let at = ListRecord::SIZE * i as usize;
+    if list.len() < at + ListRecord::SIZE {
+        return ListRecord {
+            tag: 0,
+            ty: 0,
+            count: 0,
+            size: 0,
+        };
+    }
     ListRecord {
-        tag: be::be32(list, at),
-        ty: be::be32(list, at + 4),
-        count: be::be32(list, at + 8),
-        size: be::be32(list, at + 12),
+        tag: number(list, at),
+        ty: number(list, at + 4),
+        count: number(list, at + 8),
+        size: number(list, at + 12),
     }
 }
 

@@ -26,8 +26,8 @@ use Rattle.entries.specs.Types.{elementSize, isLawful}
 use Rattle.entries.specs.Entries.{countRight}
 use Rattle.put.specs.Puts.{bytesOf}
 use Rattle.lists.specs.declared.ListRecord.{ListRecord}
-use Rattle.lists.specs.Lists.{ListEntry, listRecordAt, sizeAt, entryOf, entryAt, entriesFrom, entriesOf}
-use Rattle.lists.proofs.ListLaws.{entries-step, entries-none, entries-total}
+use Rattle.lists.specs.Lists.{ListEntry, listRecordAt, recordShown, sizeAt, entryOf, entryAt, entriesFrom, entriesOf}
+use Rattle.lists.proofs.ListLaws.{record-whole, entries-step, entries-none, entries-total}
 use Rattle.reasons.specs.Reasons.{endsAt, dataExact, tagIn, entryReasons, entriesReasons, listReasons, sizeTag, sizeEntry, hasZero, ownTags, tagsBefore}
 
 pub ends-case : {run : Ending} {to : ℕ} (end : ℕ) → run ≡ Ends to → eqb to end ≡ endsAt run end
@@ -101,9 +101,12 @@ entries-begun own list row h = rw (sub-zero, h)
 -- in the shape of what is known in a turn: v is what the run began with, e and bytes are entry i, r is what it found
 module _ (own : Bool) (list row : List ℕ) (n i at : ℕ) {v : Verdict}
     (inv : v ≡ entriesReasons (tagsBefore own list i) (entriesFrom list row (n - i) i at)) where
-  module _ {e : ListRecord} {bytes : List ℕ} {r : Verdict} (p : e ≡ listRecordAt list i)
+  module _ (w : 16 * n ≤ length list) {e : ListRecord} {bytes : List ℕ} {r : Verdict} (f : e ≡ recordShown list i)
       (b : bytes ≡ take (e .size) (drop at row))
       (h : r ≡ entryReasons (tagsBefore own list i) (entryOf e bytes)) (l : i < n) where
+    p : e ≡ listRecordAt list i
+    p = record-whole list n i w l f
+
     begun : v ≡ both r (entriesReasons (tagsBefore own list (i + 1))
         (entriesFrom list row (n - (i + 1)) (i + 1) (at + sizeAt list i)))
     begun =

@@ -9,8 +9,8 @@ use native.Mathlib.Omega.{arith}
 use Rattle.put.specs.Puts.{zeros, fourBytes}
 use Rattle.put.proofs.PutLaws.{sets-append, length-four}
 use Rattle.lists.specs.declared.ListRecord.{ListRecord}
-use Rattle.lists.specs.Lists.{ListEntry, listRecordAt, sizeAt, entryAt, entriesFrom}
-use Rattle.lists.proofs.ListLaws.{entries-step, entries-none}
+use Rattle.lists.specs.Lists.{ListEntry, listRecordAt, recordShown, sizeAt, entryAt, entriesFrom}
+use Rattle.lists.proofs.ListLaws.{record-whole, entries-step, entries-none}
 use Rattle.reasons.specs.Reasons.{recordOf}
 use Rattle.layout.specs.Layout.{recordBytes, offsetFor, dataStart, dataStop, indexFrom, storeFrom}
 
@@ -35,8 +35,12 @@ unfolding storeFrom
 store-none filled = refl
 
 -- in the shape of what is known in a turn
-module _ (list row : List ℕ) (n i at filled : ℕ) (l : i < n) {e : ListRecord} {offset : ℕ} {bytes : List ℕ}
-    (p : e ≡ listRecordAt list i) (b : bytes ≡ take (e .size) (drop at row)) (o : offset ≡ offsetFor (e .ty) filled) where
+module _ (list row : List ℕ) (n i at filled : ℕ) (w : 16 * n ≤ length list) (l : i < n) {e : ListRecord} {offset : ℕ}
+    {bytes : List ℕ} (q : e ≡ recordShown list i) (b : bytes ≡ take (e .size) (drop at row))
+    (o : offset ≡ offsetFor (e .ty) filled) where
+  p : e ≡ listRecordAt list i
+  p = record-whole list n i w l q
+
   size-here : sizeAt list i ≡ e .size
   size-here = rw p
 

@@ -1,6 +1,7 @@
 -- The entries that are left decide; their data starts where that of the ones before ends. Assumes nothing.
 use Prim.Native.Nat.{_≤_, _-_, _*_}
 use mathlib.Core.Path.{_≡_}
+use lib.ListN.{length}
 use borrow.Author.Needs.{needs}
 use Rattle.lists.specs.Lists.{entriesFrom, entriesOf}
 use Rattle.reasons.specs.Reasons.{entriesReasons, ownTags, tagsBefore}
@@ -9,7 +10,7 @@ use Rattle.reasons.proofs.entries_check.Statement.{statement}
 use Rattle.reasons.proofs.entries_check.Tie as tie
 
 abbrev Inv-loop : tie.InvT-loop
-Inv-loop list row own n at₀ i₀ at i = (i ≤ n) × (at ≤ 4294967295 * i)
+Inv-loop list row own n at₀ i₀ at i = (i ≤ n) × (16 * n ≤ length list) × (at ≤ 4294967295 * i)
     × (entriesReasons (ownTags own) (entriesOf list row)
     ≡ entriesReasons (tagsBefore own list i) (entriesFrom list row (n - i) i at))
 
@@ -23,7 +24,7 @@ cast-n : tie.Need-cast-n Inv-loop μ-loop
 cast-n c = search needs
 
 loop-holds : tie.Need-loop-holds Inv-loop μ-loop
-loop-holds c = (search needs, search needs, search laws.entries-begun)
+loop-holds c = (search needs, search needs, search needs, search laws.entries-begun)
 
 entry-requires : tie.Need-entry-requires Inv-loop μ-loop
 entry-requires c κs = search needs
@@ -56,7 +57,7 @@ loop-less : tie.Need-loop-less Inv-loop μ-loop
 loop-less c = search needs
 
 loop-again : tie.Need-loop-again Inv-loop μ-loop
-loop-again c = (search needs, search needs, search laws.entries-turn)
+loop-again c = (search needs, search needs, search needs, search laws.entries-turn)
 
 returns-2 : tie.Need-returns-2 Inv-loop μ-loop
 returns-2 c = search laws.entries-spent
