@@ -1,14 +1,14 @@
--- The reasons of refusal 32 are what the rules say: of one entry (entry-lawful), of some entries behind others
--- (entries-lawful), of the signature's list with the 1000 in front and of the header's (signed-lawful, headed-lawful).
+-- The reasons of refusal 32 are what the rules say: of one entry (entry-lawful), of entries behind others (entries-lawful),
+-- of the signature's list with the 1000 in front (signed-lawful) and of the header's (headed-lawful).
 use Prim.Native.Nat.{ℕ, zero, suc, _+_, _*_, _≤_, _<_}
-use mathlib.Core.Path.{_≡_, refl, sym, ap, _∙_}
+use mathlib.Core.Path.{_≡_, refl, sym}
 use mathlib.Core.Logic.{_↔_, _≢_}
 use mathlib.Core.List.{List, [], _∷_}
 use mathlib.Core.Bool.{Bool, true, false, _||_}
 use lib.ListN.{length}
 use lib.Dec.{eqb}
 use native.Mathlib.Omega.{arith}
-use borrow.Author.Tests.{eqb-true, eqb-false, eq-eqb, ne-eqb}
+use borrow.Author.Tests.{eqb-true, eqb-false, eq-eqb}
 use Rattle.format.specs.Sizes.{nindexLimit}
 use Rattle.format.specs.declared.verdict.Verdict.the-variants.{Pass}
 use Rattle.entries.specs.declared.types.ElementSize.{ElementSize}
@@ -48,20 +48,22 @@ module _ (count : ℕ) (bytes : List ℕ) where
   exact-lawful Unlawful t = let z : _≡_ {A = ℕ} 0 1 = cc in absurd (omega arith)
 
 -- one entry
-pub entry-lawful : (seen : List ℕ) (entry : ListEntry)
+entry-lawful : (seen : List ℕ) (entry : ListEntry)
     → EntryRight seen entry ↔ (LawfulEntry entry × (tagIn (entry .tag) seen ≡ false))
 unfolding dataExact
 entry-lawful seen entry = (
   λ r.
       let c = count-lawful (recordOf entry 0) .0 (r .counted) in
-      let x = exact-lawful (entry .count) (entry .bytes) (elementSize (entry .ty)) (r .typed) .0 (r .exact) in
-      (record {
-        type′ = type-lawful (entry .ty) .0 (r .typed);
-        count = c .0;
-        single = c .1;
-        fixed = x .0;
-        strings = x .1;
-      }, r .fresh),
+      let x = exact-lawful (entry .count) (entry .bytes) (elementSize (entry .ty)) (r .typed) .0 (r .exact) in (
+        record {
+          type′ = type-lawful (entry .ty) .0 (r .typed);
+          count = c .0;
+          single = c .1;
+          fixed = x .0;
+          strings = x .1;
+        },
+        r .fresh,
+      ),
   λ h.
       let l = h .0 in
       let t = type-lawful (entry .ty) .1 (l .type′) in
@@ -112,9 +114,10 @@ module _ (seen : List ℕ) (entry : ListEntry) (rest : List ListEntry) where
     fresh zero m = f
     fresh (suc i) m = apart i (omega arith) .1
 
-  joined : ((LawfulEntry entry × (tagIn (entry .tag) seen ≡ false)) × (LawfulEntries rest × Fresh (entry .tag ∷ seen) rest))
+  entries-step :
+      ((LawfulEntry entry × (tagIn (entry .tag) seen ≡ false)) × (LawfulEntries rest × Fresh (entry .tag ∷ seen) rest))
       ↔ (LawfulEntries (entry ∷ rest) × Fresh seen (entry ∷ rest))
-  joined = (
+  entries-step = (
     λ h.
         let l = h .0 .0 in
         let f = h .0 .1 in
@@ -122,22 +125,25 @@ module _ (seen : List ℕ) (entry : ListEntry) (rest : List ListEntry) where
         let fs = h .1 .1 in
         (record { each = each l f ls fs; once = once l f ls fs }, fresh l f ls fs),
     λ h.
-        let ls = h .0 in
-        ((ls .each 0 (omega arith), h .1 0 (omega arith)),
-        (record {
-          each = λ i m. ls .each (suc i) (omega arith);
-          once = λ i j m k. ls .once (suc i) (suc j) (omega arith) (omega arith);
-        },
-        λ i m.
-            fresh-step (nth rest i .tag) (entry .tag) seen .1
-            (ls .once (suc i) 0 (omega arith) (omega arith), h .1 (suc i) (omega arith)))),
+        let ls = h .0 in (
+          (ls .each 0 (omega arith), h .1 0 (omega arith)),
+          (
+            record {
+              each = λ i m. ls .each (suc i) (omega arith);
+              once = λ i j m k. ls .once (suc i) (suc j) (omega arith) (omega arith);
+            },
+            λ i m.
+                fresh-step (nth rest i .tag) (entry .tag) seen .1
+                (ls .once (suc i) 0 (omega arith) (omega arith), h .1 (suc i) (omega arith)),
+          ),
+        ),
   )
 
 none-pass : (seen : List ℕ) → entriesReasons seen [] ≡ Pass
 unfolding entriesReasons
 none-pass seen = refl
 
-pub entries-lawful : (entries : List ListEntry) (seen : List ℕ)
+entries-lawful : (entries : List ListEntry) (seen : List ℕ)
     → (entriesReasons seen entries ≡ Pass) ↔ (LawfulEntries entries × Fresh seen entries)
 entries-lawful [] seen = (
   λ h. (record { each = λ i l. absurd (omega arith); once = λ i j l. absurd (omega arith) }, λ i l. absurd (omega arith)),
@@ -147,7 +153,7 @@ entries-lawful (entry ∷ rest) seen =
     let s = entries-right seen entry rest in
     let f = entry-lawful seen entry in
     let g = entries-lawful rest (entry .tag ∷ seen) in
-    let j = joined seen entry rest in (
+    let j = entries-step seen entry rest in (
       λ h. let k = s .0 h in j .0 (f .0 (k .0), g .0 (k .1)),
       λ h. let k = j .1 h in s .1 (f .1 (k .0), g .1 (k .1)),
     )
