@@ -18,13 +18,18 @@ reads() {
     }
 }
 
-# make FILE ANSWER-1 ANSWER-2 OPTION...
-make() {
+# ours FILE ANSWER-1 ANSWER-2 OPTION...: a package for the station alone
+ours() {
     file=$1 one=$2 two=$3
     shift 3
     python3 tools/make_package.py "$@" "$out/$file" > /dev/null
     reads "$file" 1 "$one"
     reads "$file" 2 "$two"
+}
+
+# make FILE ANSWER-1 ANSWER-2 OPTION...: one that rpm reads too
+make() {
+    ours "$@"
     if command -v rpm > /dev/null; then
         rpm -K --nosignature "$out/$file" > "$out/rpm" || { cat "$out/rpm"; exit 1; }
         [ -n "$(rpm -qp --qf '%{name}' "$out/$file")" ]
@@ -48,7 +53,8 @@ make dose.rpm "0 at 2: 27 1250 999 5000000" "0 at 2: 27 1250 999 5000000" --dose
 make page.rpm "0 at 1: 27 1250" "0 at 1: 27 1250" --book "02 0007" --dose 27:1250
 cmp "$out/page.rpm" "$out/example.rpm"
 make dose_first.rpm "20 at 7: " "0 at 2: 1 100 27 1250" --dose 1:100 --book "98 001B 000004E2 0005"
-make largest.rpm "0 at 0: " "23 at 20002: " --book 00 --weight 4294967295 --entry 4294967295:int16:65535 \
+# rpm takes a tag of 2^32 - 1 for -1
+ours largest.rpm "0 at 0: " "23 at 20002: " --book 00 --weight 4294967295 --entry 4294967295:int16:65535 \
     --entry 30000:int8:255 --entry 30001:char:0,255 --entry 30002:int32:0xFFFFFFFF
 python3 tools/make_package.py --book "86 FFFF FFFFFFFF" --book "86 FFFF FFFFFFFF" --weight 0 "$out/sum.rpm" > "$out/said"
 reads sum.rpm 2 "22 at 0: "

@@ -4,7 +4,8 @@ ghost use mathlib.Core.List.{[], _∷_};
 ghost use Prim.Native.Nat.{_/_, _≤_};
 ghost use lib.ListN.{length};
 ghost use Rattle.lists.specs.Lists.{entryOf, entriesOf};
-ghost use Rattle.reasons.specs.Reasons.{endsAt, exactFor, tagIn, tagsBefore, ownTags, entryReasons, entriesReasons, listReasons, sizeEntry, nameReasons, formReasons, reasons};
+ghost use Rattle.entries.specs.Types.{elementSize};
+ghost use Rattle.reasons.specs.Reasons.{endsAt, dataExact, tagIn, tagsBefore, ownTags, entryReasons, entriesReasons, listReasons, sizeEntry, nameReasons, formReasons, reasons};
 use entries::ElementSize;
 use entries::types::element_size;
 use entries::types::is_lawful;
@@ -31,17 +32,18 @@ fn ends_at(run: Ending, end: usize) -> bool
     }
 }
 
-// Whether data is exactly `count` elements of a size.
-fn data_exact(size: ElementSize, count: u32, bytes: &[u8]) -> bool
-    ensures { λ r. ⌜ r ≡ exactFor size count (now (bytes .entry)) ⌝ }
+// Whether an entry's data is exactly what its type, of an element size, and its count say.
+fn data_exact(e: ListRecord, size: ElementSize, bytes: &[u8]) -> bool
+    requires { ⌜ size ≡ elementSize (e .ty) ⌝ }
+    ensures { λ r. ⌜ r ≡ dataExact (e .ty) (e .count) (now (bytes .entry)) ⌝ }
 {
     match size {
         ElementSize::Bytes(n) => {
-            let whole = n * count as usize;
+            let whole = n * e.count as usize;
             whole == bytes.len()
         }
         ElementSize::ToZero => {
-            let run = strings::strings_end(bytes, 0, bytes.len(), count);
+            let run = strings::strings_end(bytes, 0, bytes.len(), e.count);
             ends_at(run, bytes.len())
         }
         ElementSize::Unlawful => false,
@@ -77,7 +79,7 @@ fn entry_check(list: &[u8], own: bool, i: u32, e: ListRecord, bytes: &[u8]) -> V
     if !entries::count_right(record) {
         return Verdict::Fail(32, 0);
     }
-    if !data_exact(size, e.count, bytes) {
+    if !data_exact(e, size, bytes) {
         return Verdict::Fail(32, 0);
     }
     if is_repeated(list, own, i, e.tag) {

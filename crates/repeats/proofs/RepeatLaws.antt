@@ -1,10 +1,10 @@
--- Laws of `tagAmong`: a tag by its last byte (differs, joined), four records (low-first .. low-last, four-first .. four-last),
--- a turn of the loops over them (turn, ends, spent; turn-4, turn-low-4, ends-4, last-4), and `tagBefore` as a search of the
--- package from the index on (searched).
+-- Laws of `tagAmong`: a tag by its last byte (differs, joined), four records (low-first .. low-last, four-first ..
+-- four-last), a turn of the loops over them (turn, ends, spent; turn-4, turn-low-4, ends-4, last-4); and `tagBefore` as a
+-- search of the package from the index on (searched).
 use Prim.Native.Nat.{ℕ, zero, suc, _+_, _-_, _*_, _%_, _≤_, _<_}
 use mathlib.Core.Path.{_≡_, refl, sym, ap, _∙_}
 use mathlib.Core.List.{List}
-use mathlib.Core.Bool.{Bool, true, false, _||_}
+use mathlib.Core.Bool.{Bool, true, false, _||_, or-true, or-false, or-assoc}
 use lib.ListN.{length, getD, take, drop, length-drop}
 use lib.Seq.{take-all}
 use lib.Dec.{eqb}
@@ -42,14 +42,6 @@ among-4 : (s : List ℕ) (at tag : ℕ) → tagAmong (drop at s) 4 tag
 unfolding tagAmong
 among-4 s at tag = rw (be32-drop s at 48, be32-drop s at 32, be32-drop s at 16, be32-drop s at 0)
 
-or-false : (b : Bool) → (b || false) ≡ b
-or-false true = refl
-or-false false = refl
-
-or-assoc : (a b c : Bool) → (a || (b || c)) ≡ ((a || b) || c)
-or-assoc true b c = refl
-or-assoc false b c = refl
-
 -- n records from record k on, and those before it
 back : (s : List ℕ) (tag k n : ℕ) → tagAmong s (k + n) tag ≡ (tagAmong (drop (16 * k) s) n tag || tagAmong s k tag)
 unfolding tagAmong
@@ -59,7 +51,7 @@ back s tag k (suc n) =
     let at : 16 * (k + n) ≡ 16 * k + 16 * n = omega arith in
     ap (λ (m : ℕ). tagAmong s m tag) j ∙ step s tag (k + n)
     ∙ rw (at, ← be32-drop s (16 * k) (16 * n), back s tag k n)
-    (or-assoc (eqb (be32At (drop (16 * k) s) (16 * n)) tag) (tagAmong (drop (16 * k) s) n tag) (tagAmong s k tag))
+    (sym (or-assoc (eqb (be32At (drop (16 * k) s) (16 * n)) tag) (tagAmong (drop (16 * k) s) n tag) (tagAmong s k tag)))
 
 -- the four last bytes, for each way through the tests of them
 module _ (s : List ℕ) (at low : ℕ) where
@@ -126,10 +118,6 @@ no-tag s at tag low m b h =
 -- what holds of a part of the records between two that agree
 between : (a b v m : Bool) → v ≡ (a || m) → m ≡ (b || v) → m ≡ v
 between a true v m p q = q ∙ sym (p ∙ rw q (or-true a))
-  where
-    or-true : (c : Bool) → (c || true) ≡ true
-    or-true true = refl
-    or-true false = refl
 between a false v m p q = q
 
 -- one of the first k records, in the shape of what is known in a turn: v is what the search began with, r what was read

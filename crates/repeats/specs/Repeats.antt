@@ -21,4 +21,5 @@ tagAmong s (suc n) tag = eqb (be32At s (16 * n)) tag || tagAmong s n tag
 -- one of four records from a place on has a tag with a last byte
 unfoldable pub lowAmong : List ℕ → ℕ → ℕ → Bool
 lowAmong s at low =
-    eqb (getD s (at + 3) 0) low || (eqb (getD s (at + 19) 0) low || (eqb (getD s (at + 35) 0) low || eqb (getD s (at + 51) 0) low))
+    eqb (getD s (at + 3) 0) low || (eqb (getD s (at + 19) 0) low
+    || (eqb (getD s (at + 35) 0) low || eqb (getD s (at + 51) 0) low))

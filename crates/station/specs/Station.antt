@@ -6,7 +6,14 @@ use mathlib.Core.List.{List}
 use Rattle.format.specs.Verdicts.{packedOf}
 use Rattle.reading.specs.Reading.{readAnswer}
 use Rattle.reading.specs.Buffers.{numbersIn, bytesAfter}
+use Rattle.writer.specs.Writing.{writeAnswer, bufferAfter}
 
 pub record StationRead (edition : ℕ) (s before : List ℕ) (answer : ℕ) (after : List ℕ) : Type 0 where
   pub answered : answer ≡ packedOf (readAnswer edition s (numbersIn before))
   pub buffer : after ≡ bytesAfter edition s before
+
+-- Request 1: the writing, for C
+pub record StationWrite (name signature signatureRow header headerRow before : List ℕ) (answer : ℕ) (after : List ℕ) : Type 0
+  where
+    pub answered : answer ≡ packedOf (writeAnswer name signature signatureRow header headerRow before)
+    pub buffer : after ≡ bufferAfter name signature signatureRow header headerRow before

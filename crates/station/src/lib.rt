@@ -4,7 +4,7 @@ ghost use mathlib.Core.Path.{_≡_};
 ghost use Rattle.format.specs.Verdicts.{packedOf};
 ghost use Rattle.elements.specs.Elements.{findElementAnswer};
 ghost use Rattle.lookups.specs.Lookup.{findAnswer};
-ghost use Rattle.station.specs.Station.{StationRead};
+ghost use Rattle.station.specs.Station.{StationRead, StationWrite};
 
 // A look-up: 0 and the data's file offset, or the first failing check of 2 to 13 and 25.
 #[no_mangle]
@@ -35,4 +35,28 @@ pub extern "C" fn station_read(edition: u32, pkg: &[u8], doses: &mut [u8]) -> u6
     ensures { λ r. ⌜ StationRead edition (now (pkg .entry)) (now (doses .entry)) r (now (doses .exit)) ⌝ }
 {
     reading::read_bytes(edition, pkg, doses).packed()
+}
+
+// A writing: 0 and the package's length, with the package at the front of the buffer; or the first of 32 to 34 that refuses
+// it, and the buffer is as it was.
+#[no_mangle]
+pub extern "C" fn station_write(
+    name: &[u8],
+    signature: &[u8],
+    signature_data: &[u8],
+    header: &[u8],
+    header_data: &[u8],
+    out: &mut [u8],
+) -> u64
+    ensures { λ r. ⌜ StationWrite (now (name .entry)) (now (signature .entry)) (now («signature_data» .entry)) (now (header .entry)) (now («header_data» .entry)) (now (out .entry)) r (now (out .exit)) ⌝ }
+{
+    writer::write(
+        name,
+        signature,
+        signature_data,
+        header,
+        header_data,
+        out,
+    )
+    .packed()
 }

@@ -16,7 +16,8 @@ returns : tie.Need-returns
 returns c =
     let known = c .before .before in
     let start = known .before in
-    laws.differs _ (start .args .at) _ (start .pre .1) (omega (arith, known .shared-slice-known .given (start .args .at + 3)))
+    laws.differs _ (start .args .at) _ (start .pre .1)
+    (omega (arith, known .shared-slice-known .given (start .args .at + 3)))
     (c .if1 .taken)
 
 shared-slice-read-join32 : tie.Need-shared-slice-read-join32

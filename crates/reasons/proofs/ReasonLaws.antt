@@ -1,0 +1,132 @@
+-- The reasons of 32, for each way through the functions that test them: an entry's type and data, by its element size
+-- (lawful, exact-fixed, exact-strings, exact-unlawful), its tag (repeated-own, own-other, own-none, repeated), each entry in
+-- turn (entries-begun, entries-turn, entries-ends, entries-spent), the writer's own entry (own-passes), and a zero in a name
+-- (zero-found).
+use Prim.Native.Nat.{ℕ, zero, suc, _+_, _-_, _*_, _/_, _≤_, _<_}
+use mathlib.Core.Path.{_≡_, refl, sym, ap, _∙_}
+use mathlib.Core.List.{List, [], _∷_}
+use mathlib.Core.Bool.{Bool, true, false, _||_, or-true, or-false, or-assoc}
+use lib.ListN.{length, take, drop}
+use lib.Dec.{eqb}
+use native.Mathlib.Nat.{sub-zero}
+use native.Mathlib.Numerals.{add-one}
+use borrow.Author.Tests.{ne-eqb}
+use Rattle.be.specs.Numbers.{be32At}
+use Rattle.strings.specs.declared.Ending.{Ending}
+use Rattle.strings.specs.declared.Ending.the-variants.{Ends, Open}
+use Rattle.strings.specs.Strings.{stringsFrom, isEnded}
+use Rattle.format.specs.declared.verdict.Verdict.{Verdict}
+use Rattle.format.specs.declared.verdict.Verdict.the-variants.{Pass, Fail}
+use Rattle.format.specs.Verdicts.{check, both}
+use Rattle.format.proofs.VerdictLaws.{both-pass, both-fail}
+use Rattle.repeats.specs.Repeats.{tagAmong}
+use Rattle.entries.specs.declared.types.ElementSize.{ElementSize}
+use Rattle.entries.specs.declared.types.ElementSize.the-variants.{Bytes, ToZero, Unlawful}
+use Rattle.entries.specs.Types.{elementSize, isLawful}
+use Rattle.entries.specs.Entries.{countRight}
+use Rattle.put.specs.Puts.{bytesOf}
+use Rattle.lists.specs.declared.ListRecord.{ListRecord}
+use Rattle.lists.specs.Lists.{ListEntry, listRecordAt, sizeAt, entryOf, entryAt, entriesFrom, entriesOf}
+use Rattle.lists.proofs.ListLaws.{entries-step, entries-none, entries-total}
+use Rattle.reasons.specs.Reasons.{endsAt, dataExact, tagIn, entryReasons, entriesReasons, listReasons, sizeTag, sizeEntry, hasZero, ownTags, tagsBefore}
+
+pub ends-case : {run : Ending} {to : ℕ} (end : ℕ) → run ≡ Ends to → eqb to end ≡ endsAt run end
+ends-case end h = rw h
+
+-- an entry's type and data, by the element size that was found
+module _ (ty : ℕ) {k : ElementSize} (q : k ≡ elementSize ty) where
+  pub lawful : {r : Bool} → r ≡ isLawful k → r ≡ isLawful (elementSize ty)
+  lawful h = h ∙ ap isLawful q
+
+  module _ (count : ℕ) (bytes : List ℕ) where
+    pub exact-fixed : {n : ℕ} → k ≡ Bytes n → eqb (n * count) (length bytes) ≡ dataExact ty count bytes
+    unfolding dataExact
+    exact-fixed h = rw (← q, h)
+
+    pub exact-strings : {run : Ending} {r : Bool} → k ≡ ToZero → run ≡ stringsFrom bytes (length bytes - 0) 0 count
+        → r ≡ endsAt run (length bytes) → r ≡ dataExact ty count bytes
+    unfolding dataExact
+    exact-strings h e g = g ∙ rw (e, sub-zero, ← q, h)
+
+    pub exact-unlawful : k ≡ Unlawful → false ≡ dataExact ty count bytes
+    unfolding dataExact
+    exact-unlawful h = rw (← q, h)
+
+-- the tags before an entry: those of the entries before it, and the writer's own
+tags-before : (own : Bool) (list : List ℕ) (tag i : ℕ)
+    → tagIn tag (tagsBefore own list i) ≡ (tagAmong list i tag || tagIn tag (ownTags own))
+unfolding tagIn tagsBefore tagAmong
+tags-before own list tag zero = refl
+tags-before own list tag (suc i) =
+    rw (tags-before own list tag i)
+    (sym (or-assoc (eqb (be32At list (16 * i)) tag) (tagAmong list i tag) (tagIn tag (ownTags own))))
+
+pub repeated-own : {own : Bool} (list : List ℕ) {tag : ℕ} (i : ℕ) → own ≡ true → tag ≡ sizeTag
+    → true ≡ tagIn tag (tagsBefore own list i)
+unfolding tagIn
+repeated-own {own} list {tag} i h e = sym (tags-before own list tag i ∙ rw (h, e) (or-true (tagAmong list i sizeTag)))
+
+pub own-other : {own : Bool} (tag : ℕ) → own ≡ true → (tag ≡ sizeTag → ⊥) → tagIn tag (ownTags own) ≡ false
+unfolding tagIn
+own-other tag h k = rw (h, ne-eqb sizeTag tag (λ q. k (sym q)))
+
+pub own-none : {own : Bool} (tag : ℕ) → own ≡ false → tagIn tag (ownTags own) ≡ false
+unfolding tagIn
+own-none tag h = rw h
+
+pub repeated : (own : Bool) (list : List ℕ) (tag i : ℕ) {r : Bool} → tagIn tag (ownTags own) ≡ false
+    → r ≡ tagAmong list i tag → r ≡ tagIn tag (tagsBefore own list i)
+repeated own list tag i h e = e ∙ sym (tags-before own list tag i ∙ rw h (or-false (tagAmong list i tag)))
+
+-- each entry in turn
+step : (seen : List ℕ) (entry : ListEntry) (rest : List ListEntry)
+    → entriesReasons seen (entry ∷ rest) ≡ both (entryReasons seen entry) (entriesReasons (entry .tag ∷ seen) rest)
+unfolding entriesReasons
+step seen entry rest = refl
+
+none : (seen : List ℕ) → entriesReasons seen [] ≡ Pass
+unfolding entriesReasons
+none seen = refl
+
+next : (own : Bool) (list : List ℕ) (i : ℕ) → be32At list (16 * i) ∷ tagsBefore own list i ≡ tagsBefore own list (i + 1)
+unfolding tagsBefore
+next own list i = rw (add-one i)
+
+pub entries-begun : (own : Bool) (list row : List ℕ) {n : ℕ} → n ≡ length list / 16
+    → entriesReasons (ownTags own) (entriesOf list row)
+    ≡ entriesReasons (tagsBefore own list 0) (entriesFrom list row (n - 0) 0 0)
+unfolding tagsBefore
+entries-begun own list row h = rw (sub-zero, h)
+
+-- in the shape of what is known in a turn: v is what the run began with, e and bytes are entry i, r is what it found
+module _ (own : Bool) (list row : List ℕ) (n i at : ℕ) {v : Verdict}
+    (inv : v ≡ entriesReasons (tagsBefore own list i) (entriesFrom list row (n - i) i at)) where
+  module _ {e : ListRecord} {bytes : List ℕ} {r : Verdict} (p : e ≡ listRecordAt list i)
+      (b : bytes ≡ take (e .size) (drop at row))
+      (h : r ≡ entryReasons (tagsBefore own list i) (entryOf e bytes)) (l : i < n) where
+    begun : v ≡ both r (entriesReasons (tagsBefore own list (i + 1))
+        (entriesFrom list row (n - (i + 1)) (i + 1) (at + sizeAt list i)))
+    begun =
+        let q : r ≡ entryReasons (tagsBefore own list i) (entryAt list row i at) = h ∙ rw (b, p) in
+        inv ∙ rw (entries-step list row n i at l)
+        (step (tagsBefore own list i) (entryAt list row i at) _ ∙ rw (← q, next own list i))
+
+    pub entries-turn : r ≡ Pass
+        → v ≡ entriesReasons (tagsBefore own list (i + 1)) (entriesFrom list row (n - (i + 1)) (i + 1) (at + e .size))
+    entries-turn k = begun ∙ both-pass k ∙ rw p
+
+    pub entries-ends : {number place : ℕ} → r ≡ Fail number place → Fail number place ≡ v
+    entries-ends k = sym (begun ∙ both-fail _ k)
+
+  pub entries-spent : n ≤ i → Pass ≡ v
+  entries-spent l = sym (inv ∙ rw (entries-none list row n i at l) (none (tagsBefore own list i)))
+
+-- the writer's own entry passes, whatever its number
+pub own-passes : (size : ℕ) (rest : List ListEntry)
+    → entriesReasons [] (sizeEntry size ∷ rest) ≡ entriesReasons (ownTags true) rest
+unfolding bytesOf entriesReasons entryReasons check both elementSize countRight dataExact tagIn
+own-passes size rest = refl
+
+pub zero-found : (name : List ℕ) {run : Ending} {r : Bool} → r ≡ isEnded run → run ≡ stringsFrom name (length name - 0) 0 1
+    → r ≡ hasZero name
+zero-found name g e = g ∙ rw (e, sub-zero)

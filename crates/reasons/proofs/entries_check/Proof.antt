@@ -1,0 +1,84 @@
+-- The entries that are left decide; their data starts where that of the ones before ends. Assumes nothing.
+use Prim.Native.Nat.{_≤_, _-_, _*_}
+use mathlib.Core.Path.{_≡_}
+use borrow.Author.Needs.{needs}
+use Rattle.lists.specs.Lists.{entriesFrom, entriesOf}
+use Rattle.reasons.specs.Reasons.{entriesReasons, ownTags, tagsBefore}
+use Rattle.reasons.proofs.ReasonLaws as laws
+use Rattle.reasons.proofs.entries_check.Statement.{statement}
+use Rattle.reasons.proofs.entries_check.Tie as tie
+
+abbrev Inv-loop : tie.InvT-loop
+Inv-loop list row own n at₀ i₀ at i = (i ≤ n) × (at ≤ 4294967295 * i)
+    × (entriesReasons (ownTags own) (entriesOf list row)
+    ≡ entriesReasons (tagsBefore own list i) (entriesFrom list row (n - i) i at))
+
+abbrev μ-loop : tie.MeasureT-loop
+μ-loop list row own n at₀ i₀ at i = n - i
+
+count-requires : tie.Need-count-requires Inv-loop μ-loop
+count-requires c κs = search needs
+
+cast-n : tie.Need-cast-n Inv-loop μ-loop
+cast-n c = search needs
+
+loop-holds : tie.Need-loop-holds Inv-loop μ-loop
+loop-holds c = (search needs, search needs, search laws.entries-begun)
+
+entry-requires : tie.Need-entry-requires Inv-loop μ-loop
+entry-requires c κs = search needs
+
+bytes-requires : tie.Need-bytes-requires Inv-loop μ-loop
+bytes-requires c κs = search needs
+
+entry-check-requires : tie.Need-entry-check-requires Inv-loop μ-loop
+entry-check-requires c κs = search needs
+
+enum-known-v : tie.Need-enum-known-v Inv-loop μ-loop
+enum-known-v c = search needs
+
+returns : tie.Need-returns Inv-loop μ-loop
+returns c = search laws.entries-ends
+
+enum-told : tie.Need-enum-told Inv-loop μ-loop
+enum-told c = search needs
+
+cast-at : tie.Need-cast-at Inv-loop μ-loop
+cast-at c = search needs
+
+add-at : tie.Need-add-at Inv-loop μ-loop
+add-at c = search needs
+
+add-i : tie.Need-add-i Inv-loop μ-loop
+add-i c = search needs
+
+loop-less : tie.Need-loop-less Inv-loop μ-loop
+loop-less c = search needs
+
+loop-again : tie.Need-loop-again Inv-loop μ-loop
+loop-again c = (search needs, search needs, search laws.entries-turn)
+
+returns-2 : tie.Need-returns-2 Inv-loop μ-loop
+returns-2 c = search laws.entries-spent
+
+pub entries-check-spec : {M : Type 1} → statement M
+entries-check-spec =
+    tie.close
+    (tie.spec
+    Inv-loop
+    μ-loop
+    count-requires
+    cast-n
+    loop-holds
+    entry-requires
+    bytes-requires
+    entry-check-requires
+    enum-known-v
+    returns
+    enum-told
+    cast-at
+    add-at
+    add-i
+    loop-less
+    loop-again
+    returns-2)
