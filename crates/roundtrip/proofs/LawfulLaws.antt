@@ -1,7 +1,7 @@
 -- The reasons of refusal 32 are what the rules say: of one entry (entry-lawful), of entries behind others (entries-lawful),
 -- of the signature's list with the 1000 in front (signed-lawful) and of the header's (headed-lawful).
 use Prim.Native.Nat.{ℕ, zero, suc, _+_, _*_, _≤_, _<_}
-use mathlib.Core.Path.{_≡_, refl, sym}
+use mathlib.Core.Path.{_≡_, refl, sym, _∙_}
 use mathlib.Core.Logic.{_↔_, _≢_}
 use mathlib.Core.List.{List, [], _∷_}
 use mathlib.Core.Bool.{Bool, true, false, _||_}
@@ -14,11 +14,10 @@ use Rattle.format.specs.declared.verdict.Verdict.the-variants.{Pass}
 use Rattle.entries.specs.declared.types.ElementSize.{ElementSize}
 use Rattle.entries.specs.declared.types.ElementSize.the-variants.{Bytes, ToZero, Unlawful}
 use Rattle.entries.specs.Types.{elementSize, isLawful}
-use Rattle.entries.specs.Entries.{countRight}
 use Rattle.entries.proofs.RuleLaws.{type-lawful, count-lawful}
-use Rattle.put.specs.Puts.{bytesOf}
 use Rattle.lists.specs.Lists.{ListEntry}
 use Rattle.reasons.specs.Reasons.{recordOf, exactFor, dataExact, tagIn, entriesReasons, sizeTag, sizeEntry}
+use Rattle.reasons.proofs.ReasonLaws.{own-passes}
 use Rattle.roundtrip.specs.Lawful.{nth, Strings, LawfulEntry, LawfulEntries}
 use Rattle.roundtrip.proofs.ReasonLaws.{EntryRight, entries-right, ListRight}
 use Rattle.roundtrip.proofs.RecordLaws.{ends-exactly, in-step}
@@ -167,11 +166,7 @@ headed-lawful entries = (
       record { some = h .0; within = h .1; each = entries-lawful entries [] .1 (h .2, λ i l. no-tag (nth entries i .tag)) },
 )
 
--- the signature's list: 1000 comes first, and is right by itself
-size-entry : EntryRight [] (sizeEntry 0)
-unfolding countRight dataExact elementSize tagIn bytesOf
-size-entry = record { typed = refl; counted = refl; exact = refl; fresh = refl }
-
+-- the signature's list: 1000 comes first, so that its tag is seen
 abbrev NotSize : List ListEntry → Type 0
 NotSize entries = (i : ℕ) → i < length entries → nth entries i .tag ≢ sizeTag
 
@@ -184,17 +179,17 @@ not-size entries = (
 pub signed-lawful : (entries : List ListEntry)
     → ListRight (sizeEntry 0 ∷ entries) ↔ ((length entries + 1 ≤ nindexLimit) × LawfulEntries entries × NotSize entries)
 signed-lawful entries =
-    let s = entries-right [] (sizeEntry 0) entries in
+    let s = own-passes 0 entries in
     let g = entries-lawful entries (sizeTag ∷ []) in (
       λ r.
           let w = r .within in
-          let k = g .0 (s .0 (r .each) .1) in
+          let k = g .0 (sym s ∙ r .each) in
           (omega arith, k .0, not-size entries .0 (k .1)),
       λ h.
           let w = h .0 in
           record {
             some = omega arith;
             within = omega arith;
-            each = s .1 (size-entry, g .1 (h .1, not-size entries .1 (h .2)));
+            each = s ∙ g .1 (h .1, not-size entries .1 (h .2));
           },
     )

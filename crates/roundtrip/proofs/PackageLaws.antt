@@ -26,7 +26,7 @@ use Rattle.writer.proofs.StructureLaws.{structure-length}
 use Rattle.roundtrip.specs.Lawful.{nth, Wide}
 use Rattle.roundtrip.specs.Theorems.{Finds, withSizeOf, ReadsBack}
 use Rattle.roundtrip.proofs.HoldsLaws.{Holds, all, front, rest, moved, within}
-use Rattle.roundtrip.proofs.ReasonLaws.{ListRight, list-right, size-right, Writable}
+use Rattle.roundtrip.proofs.ReasonLaws.{ListRight, size-right, Writable}
 use Rattle.roundtrip.proofs.RecordLaws.{Reads}
 use Rattle.roundtrip.proofs.StructureLaws.{StructureRead, structure-read}
 use Rattle.roundtrip.proofs.LeadLaws.{lead-pass, lead-name}
@@ -82,8 +82,7 @@ module _ (name : List ℕ) (signature header : List ListEntry) (w : Writable nam
   -- 1000 with its number is as right as with any
   entries-right : ListRight entries
   unfolding withSize
-  entries-right =
-      list-right _ .0 (size-right (length (structureBytes header)) signature ∙ list-right _ .1 (w .signed))
+  entries-right = size-right (length (structureBytes header)) signature (w .signed)
 
   entries-wide : Wide entries
   unfolding withSize bytesOf

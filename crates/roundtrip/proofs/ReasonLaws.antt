@@ -12,12 +12,11 @@ use Rattle.strings.proofs.RowLaws.{single-among}
 use Rattle.format.specs.Sizes.{packageLimit, nindexLimit}
 use Rattle.format.specs.declared.verdict.Verdict.the-variants.{Pass}
 use Rattle.format.proofs.VerdictLaws.{passed, inverted, both-pass, both-inverted}
-use Rattle.entries.specs.Types.{elementSize}
 use Rattle.entries.specs.Entries.{typeLawful, countRight}
-use Rattle.put.specs.Puts.{bytesOf}
 use Rattle.lists.specs.Lists.{ListEntry, entriesOf, sizesFrom}
 use Rattle.reasons.specs.Reasons.{recordOf, dataExact, tagIn, entryReasons, entriesReasons, listReasons, sizeEntry}
 use Rattle.reasons.specs.Reasons.{hasZero, nameReasons, formReasons, reasons}
+use Rattle.reasons.proofs.ReasonLaws.{own-passes}
 use Rattle.layout.specs.Layout.{written}
 use Rattle.writer.specs.Writing.{roomCheck, writtenOf, writeCheck}
 use Rattle.roundtrip.specs.Lawful.{LawfulName, Wide}
@@ -67,10 +66,14 @@ list-right entries = (
 )
 
 -- 1000 passes whatever its number is
-pub size-right : (size : ℕ) (entries : List ListEntry)
-    → listReasons (sizeEntry size ∷ entries) ≡ listReasons (sizeEntry 0 ∷ entries)
-unfolding listReasons entriesReasons entryReasons dataExact elementSize bytesOf
-size-right size entries = refl
+pub size-right : (size : ℕ) (entries : List ListEntry) → ListRight (sizeEntry 0 ∷ entries)
+    → ListRight (sizeEntry size ∷ entries)
+size-right size entries r =
+    record {
+      some = r .some;
+      within = r .within;
+      each = own-passes size entries ∙ sym (own-passes 0 entries) ∙ r .each;
+    }
 
 -- a lent list
 pub record FormRight (list row : List ℕ) : Type 0 where
