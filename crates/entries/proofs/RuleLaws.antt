@@ -1,5 +1,5 @@
--- The rules of types and counts: check 9 is that the type is in the table (type-lawful), check 10 that the count is at least
--- 1, and exactly 1 for types 6 and 9 (count-lawful).
+-- The rules of types and counts: check 9 is that the type is in the table (type-lawful), check 10 that the count is at
+-- least 1, and exactly 1 for types 6 and 9 (count-lawful).
 use Prim.Native.Nat.{ℕ, suc, _%_, _≤_, _<_}
 use mathlib.Core.Path.{_≡_, refl}
 use mathlib.Core.Logic.{_⊎_, inl, inr, ⊎-elim, _↔_, _≢_}

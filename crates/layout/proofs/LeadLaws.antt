@@ -1,4 +1,4 @@
--- The lead from its parts: name-put, lead-put; its length, lead-length.
+-- The lead from its parts: name-put, lead-put; how long they are: name-length, lead-length.
 use Prim.Native.Nat.{ℕ, _+_, _-_, _≤_}
 use mathlib.Core.Path.{_≡_, refl, sym, ap, _∙_}
 use mathlib.Core.List.{List, [], _∷_, _++_}
@@ -20,7 +20,7 @@ name-put out name {shown} h p q =
     let f : nameField - length shown ≡ nameField - length name = omega arith in
     behind out 10 shown (zeros (nameField - length shown)) p q refl ∙ rw (f, h)
 
-name-length : (name : List ℕ) → length (nameBytes name) ≡ nameField
+pub name-length : (name : List ℕ) → length (nameBytes name) ≡ nameField
 name-length name =
     let a = length-append (take nameField name) (zeros (nameField - length name)) in
     let b = length-take nameField name in

@@ -1,5 +1,5 @@
--- Bytes that stand in a list from a place on (Holds): their parts (front, rest), and the byte, the part, the number, the four
--- numbers and the strings that are read there. The first byte from a place on, and those behind it: next-byte.
+-- Bytes that stand in a list from a place on (Holds): their parts (front, rest), and the byte, the part, the number, the
+-- four numbers and the strings that are read there. The first byte from a place on, and those behind it: next-byte.
 use Prim.Native.Nat.{ℕ, zero, suc, _+_, _*_, _/_, _%_, _≤_, _<_}
 use mathlib.Core.Path.{_≡_, refl, sym, ap, _∙_}
 use mathlib.Core.List.{List, [], _∷_, _++_, append-assoc, append-nil}
@@ -79,10 +79,6 @@ number {p} {k} n l h =
     let c : getD p (k + 2) 0 ≡ n / 256 % 256 = byte h 2 (omega arith) in
     let d : getD p (k + 3) 0 ≡ n % 256 = byte h 3 (omega arith) in
     rw (a, b, c, d) (joined n l)
-
-pub four-length : (a b c d : ℕ) → length (fourBytes a b c d) ≡ 16
-unfolding fourBytes bytesOf
-four-length a b c d = refl
 
 pub record Four (p : List ℕ) (k a b c d : ℕ) : Type 0 where
   pub first : be32At p k ≡ a

@@ -1,24 +1,23 @@
--- The reasons of refusal 32 are what the rules say: of one entry (entry-lawful), of some entries behind others
--- (entries-lawful), of the signature's list with the 1000 in front and of the header's (signed-lawful, headed-lawful).
+-- The reasons of refusal 32 are what the rules say: of one entry (entry-lawful), of entries behind others (entries-lawful),
+-- of the signature's list with the 1000 in front (signed-lawful) and of the header's (headed-lawful).
 use Prim.Native.Nat.{ℕ, zero, suc, _+_, _*_, _≤_, _<_}
-use mathlib.Core.Path.{_≡_, refl, sym, ap, _∙_}
+use mathlib.Core.Path.{_≡_, refl, sym, _∙_}
 use mathlib.Core.Logic.{_↔_, _≢_}
 use mathlib.Core.List.{List, [], _∷_}
 use mathlib.Core.Bool.{Bool, true, false, _||_}
 use lib.ListN.{length}
 use lib.Dec.{eqb}
 use native.Mathlib.Omega.{arith}
-use borrow.Author.Tests.{eqb-true, eqb-false, eq-eqb, ne-eqb}
+use borrow.Author.Tests.{eqb-true, eqb-false, eq-eqb}
 use Rattle.format.specs.Sizes.{nindexLimit}
 use Rattle.format.specs.declared.verdict.Verdict.the-variants.{Pass}
 use Rattle.entries.specs.declared.types.ElementSize.{ElementSize}
 use Rattle.entries.specs.declared.types.ElementSize.the-variants.{Bytes, ToZero, Unlawful}
 use Rattle.entries.specs.Types.{elementSize, isLawful}
-use Rattle.entries.specs.Entries.{countRight}
 use Rattle.entries.proofs.RuleLaws.{type-lawful, count-lawful}
-use Rattle.put.specs.Puts.{bytesOf}
 use Rattle.lists.specs.Lists.{ListEntry}
 use Rattle.reasons.specs.Reasons.{recordOf, exactFor, dataExact, tagIn, entriesReasons, sizeTag, sizeEntry}
+use Rattle.reasons.proofs.ReasonLaws.{own-passes}
 use Rattle.roundtrip.specs.Lawful.{nth, Strings, LawfulEntry, LawfulEntries}
 use Rattle.roundtrip.proofs.ReasonLaws.{EntryRight, entries-right, ListRight}
 use Rattle.roundtrip.proofs.RecordLaws.{ends-exactly, in-step}
@@ -48,20 +47,22 @@ module _ (count : ℕ) (bytes : List ℕ) where
   exact-lawful Unlawful t = let z : _≡_ {A = ℕ} 0 1 = cc in absurd (omega arith)
 
 -- one entry
-pub entry-lawful : (seen : List ℕ) (entry : ListEntry)
+entry-lawful : (seen : List ℕ) (entry : ListEntry)
     → EntryRight seen entry ↔ (LawfulEntry entry × (tagIn (entry .tag) seen ≡ false))
 unfolding dataExact
 entry-lawful seen entry = (
   λ r.
       let c = count-lawful (recordOf entry 0) .0 (r .counted) in
-      let x = exact-lawful (entry .count) (entry .bytes) (elementSize (entry .ty)) (r .typed) .0 (r .exact) in
-      (record {
-        type′ = type-lawful (entry .ty) .0 (r .typed);
-        count = c .0;
-        single = c .1;
-        fixed = x .0;
-        strings = x .1;
-      }, r .fresh),
+      let x = exact-lawful (entry .count) (entry .bytes) (elementSize (entry .ty)) (r .typed) .0 (r .exact) in (
+        record {
+          type′ = type-lawful (entry .ty) .0 (r .typed);
+          count = c .0;
+          single = c .1;
+          fixed = x .0;
+          strings = x .1;
+        },
+        r .fresh,
+      ),
   λ h.
       let l = h .0 in
       let t = type-lawful (entry .ty) .1 (l .type′) in
@@ -112,9 +113,10 @@ module _ (seen : List ℕ) (entry : ListEntry) (rest : List ListEntry) where
     fresh zero m = f
     fresh (suc i) m = apart i (omega arith) .1
 
-  joined : ((LawfulEntry entry × (tagIn (entry .tag) seen ≡ false)) × (LawfulEntries rest × Fresh (entry .tag ∷ seen) rest))
+  entries-step :
+      ((LawfulEntry entry × (tagIn (entry .tag) seen ≡ false)) × (LawfulEntries rest × Fresh (entry .tag ∷ seen) rest))
       ↔ (LawfulEntries (entry ∷ rest) × Fresh seen (entry ∷ rest))
-  joined = (
+  entries-step = (
     λ h.
         let l = h .0 .0 in
         let f = h .0 .1 in
@@ -122,22 +124,25 @@ module _ (seen : List ℕ) (entry : ListEntry) (rest : List ListEntry) where
         let fs = h .1 .1 in
         (record { each = each l f ls fs; once = once l f ls fs }, fresh l f ls fs),
     λ h.
-        let ls = h .0 in
-        ((ls .each 0 (omega arith), h .1 0 (omega arith)),
-        (record {
-          each = λ i m. ls .each (suc i) (omega arith);
-          once = λ i j m k. ls .once (suc i) (suc j) (omega arith) (omega arith);
-        },
-        λ i m.
-            fresh-step (nth rest i .tag) (entry .tag) seen .1
-            (ls .once (suc i) 0 (omega arith) (omega arith), h .1 (suc i) (omega arith)))),
+        let ls = h .0 in (
+          (ls .each 0 (omega arith), h .1 0 (omega arith)),
+          (
+            record {
+              each = λ i m. ls .each (suc i) (omega arith);
+              once = λ i j m k. ls .once (suc i) (suc j) (omega arith) (omega arith);
+            },
+            λ i m.
+                fresh-step (nth rest i .tag) (entry .tag) seen .1
+                (ls .once (suc i) 0 (omega arith) (omega arith), h .1 (suc i) (omega arith)),
+          ),
+        ),
   )
 
 none-pass : (seen : List ℕ) → entriesReasons seen [] ≡ Pass
 unfolding entriesReasons
 none-pass seen = refl
 
-pub entries-lawful : (entries : List ListEntry) (seen : List ℕ)
+entries-lawful : (entries : List ListEntry) (seen : List ℕ)
     → (entriesReasons seen entries ≡ Pass) ↔ (LawfulEntries entries × Fresh seen entries)
 entries-lawful [] seen = (
   λ h. (record { each = λ i l. absurd (omega arith); once = λ i j l. absurd (omega arith) }, λ i l. absurd (omega arith)),
@@ -147,7 +152,7 @@ entries-lawful (entry ∷ rest) seen =
     let s = entries-right seen entry rest in
     let f = entry-lawful seen entry in
     let g = entries-lawful rest (entry .tag ∷ seen) in
-    let j = joined seen entry rest in (
+    let j = entries-step seen entry rest in (
       λ h. let k = s .0 h in j .0 (f .0 (k .0), g .0 (k .1)),
       λ h. let k = j .1 h in s .1 (f .1 (k .0), g .1 (k .1)),
     )
@@ -161,11 +166,7 @@ headed-lawful entries = (
       record { some = h .0; within = h .1; each = entries-lawful entries [] .1 (h .2, λ i l. no-tag (nth entries i .tag)) },
 )
 
--- the signature's list: 1000 comes first, and is right by itself
-size-entry : EntryRight [] (sizeEntry 0)
-unfolding countRight dataExact elementSize tagIn bytesOf
-size-entry = record { typed = refl; counted = refl; exact = refl; fresh = refl }
-
+-- the signature's list: 1000 comes first, so that its tag is seen
 abbrev NotSize : List ListEntry → Type 0
 NotSize entries = (i : ℕ) → i < length entries → nth entries i .tag ≢ sizeTag
 
@@ -178,17 +179,17 @@ not-size entries = (
 pub signed-lawful : (entries : List ListEntry)
     → ListRight (sizeEntry 0 ∷ entries) ↔ ((length entries + 1 ≤ nindexLimit) × LawfulEntries entries × NotSize entries)
 signed-lawful entries =
-    let s = entries-right [] (sizeEntry 0) entries in
+    let s = own-passes 0 entries in
     let g = entries-lawful entries (sizeTag ∷ []) in (
       λ r.
           let w = r .within in
-          let k = g .0 (s .0 (r .each) .1) in
+          let k = g .0 (sym s ∙ r .each) in
           (omega arith, k .0, not-size entries .0 (k .1)),
       λ h.
           let w = h .0 in
           record {
             some = omega arith;
             within = omega arith;
-            each = s .1 (size-entry, g .1 (h .1, not-size entries .1 (h .2)));
+            each = s ∙ g .1 (h .1, not-size entries .1 (h .2));
           },
     )

@@ -1,10 +1,10 @@
 -- The lead that was written: it passes check 4 (lead-pass), and its name is the name (lead-name).
-use Prim.Native.Nat.{ℕ, zero, suc, _+_, _-_, _*_, _≤_, _<_}
+use Prim.Native.Nat.{ℕ, zero, suc, _+_, _-_, _<_}
 use mathlib.Core.Path.{_≡_, sym, _∙_}
 use mathlib.Core.Logic.{_≢_}
 use mathlib.Core.List.{List, [], _∷_, _++_}
 use mathlib.Core.Bool.{true}
-use lib.ListN.{length, getD, take, drop, length-append, length-replicate, getD-replicate}
+use lib.ListN.{length, getD, take, drop, length-replicate, getD-replicate}
 use lib.Seq.{take-all}
 use native.Mathlib.Omega.{arith}
 use Rattle.be.specs.Numbers.{be16At}
@@ -17,6 +17,7 @@ use Rattle.format.specs.Verdicts.{check}
 use Rattle.package.specs.Lead.{leadCheck}
 use Rattle.put.specs.Puts.{bytesOf, zeros}
 use Rattle.layout.specs.Layout.{nameBytes, leadBytes}
+use Rattle.layout.proofs.LeadLaws.{name-length}
 use Rattle.roundtrip.specs.Lawful.{LawfulName}
 use Rattle.roundtrip.proofs.HoldsLaws.{Holds, front, rest, moved, part, number, byte}
 
@@ -44,20 +45,6 @@ module _ (name : List ℕ) (lawful : LawfulName name) where
   name-whole : take 66 name ≡ name
   name-whole = let w = lawful .within in take-all 66 name (omega arith)
 
-  name-length : length (nameBytes name) ≡ 66
-  name-length =
-      let w = lawful .within in
-      let a = length-replicate {A = ℕ} (66 - length name) 0 in
-      rw name-whole (length-append name (zeros (66 - length name)) ∙ omega arith)
-
-  pub lead-length : length (leadBytes name) ≡ 96
-  unfolding leadBytes bytesOf
-  lead-length =
-      let a = name-length in
-      let b = length-append fixed (nameBytes name ++ system) in
-      let c = length-append (nameBytes name) system in
-      omega arith
-
   module _ (p : List ℕ) (h : Holds p 0 (leadBytes name)) where
     parts : Holds p 0 (fixed ++ (nameBytes name ++ system))
     unfolding leadBytes
@@ -71,7 +58,7 @@ module _ (name : List ℕ) (lawful : LawfulName name) where
     behind-fixed = moved (omega arith) (rest fixed (nameBytes name ++ system) parts)
 
     system-here : Holds p 76 system
-    system-here = let e = name-length in moved (omega arith) (rest (nameBytes name) system behind-fixed)
+    system-here = let e = name-length name in moved (omega arith) (rest (nameBytes name) system behind-fixed)
 
     field-here : Holds p 10 (name ++ zeros (66 - length name))
     field-here = rw name-whole at (front (nameBytes name) system behind-fixed)

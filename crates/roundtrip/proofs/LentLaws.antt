@@ -1,25 +1,23 @@
--- Lists as they are lent. The numbers of a list's entries are 32 bits wide (wide-of); a list of entries, lent, is well-formed
--- and has just those entries (lent-form, lent-entries), so that writing it is accepted and writes them (lent-accepted,
--- lent-written); and a well-formed list is its entries, lent (form-lent).
+-- Lists as they are lent. The numbers of a list's entries are 32 bits wide (wide-of). A list of entries, lent, is
+-- well-formed and has just those entries, so that two lists that may be written are accepted and written (lent-accepted,
+-- lent-written). A well-formed list is its entries, lent (form-lent).
 use Prim.Native.Nat.{ℕ, zero, suc, _+_, _*_, _/_, _%_, _≤_, _<_}
-use mathlib.Core.Path.{_≡_, refl, sym, ap, _∙_}
+use mathlib.Core.Path.{_≡_, refl, sym, _∙_}
 use mathlib.Core.List.{List, [], _∷_, _++_, append-assoc}
 use lib.ListN.{length, getD, take, drop, length-append, length-take, length-drop, take-append-drop, drop-of-length-le}
 use lib.Seq.{drop-drop, length-take-le}
 use native.Mathlib.Omega.{arith}
 use Rattle.be.specs.Numbers.{be32At}
-use Rattle.format.specs.Sizes.{packageLimit}
+use Rattle.format.specs.declared.verdict.Verdict.the-variants.{Pass}
 use Rattle.put.specs.Puts.{bytesOf, fourBytes}
+use Rattle.put.proofs.PutLaws.{length-four}
 use Rattle.lists.specs.Lists.{ListEntry, listOf, rowOf, sizeAt, entryAt, entriesFrom, entriesOf, sizesFrom}
-use Rattle.reasons.specs.Reasons.{sizeEntry}
 use Rattle.layout.specs.Layout.{written}
-use Rattle.writer.specs.Writing.{writtenOf}
-use Rattle.roundtrip.specs.Lawful.{LawfulName}
+use Rattle.writer.specs.Writing.{writtenOf, writeCheck}
+use Rattle.roundtrip.specs.Lawful.{WideEntry, Wide}
 use Rattle.roundtrip.specs.Theorems.{Octets}
-use Rattle.roundtrip.proofs.HoldsLaws.{next-byte, Holds, all, front, rest, moved, part, four-length, four}
-use Rattle.roundtrip.proofs.ReasonLaws.{ListRight, FormRight, Accepted}
-use Rattle.roundtrip.proofs.RecordLaws.{WideEntry}
-use Rattle.roundtrip.proofs.StructureLaws.{Wide}
+use Rattle.roundtrip.proofs.HoldsLaws.{next-byte, Holds, all, front, rest, moved, part, four}
+use Rattle.roundtrip.proofs.ReasonLaws.{FormRight, Writable, accepted}
 
 -- the numbers of a list
 small : (s : List ℕ) → Octets s → (at : ℕ) → be32At s at < 4294967296
@@ -51,7 +49,7 @@ unfolding listOf
 list-length [] = refl
 list-length (entry ∷ rest) =
     let four = fourBytes (entry .tag) (entry .ty) (entry .count) (length (entry .bytes)) in
-    let a = four-length (entry .tag) (entry .ty) (entry .count) (length (entry .bytes)) in
+    let a = length-four (entry .tag) (entry .ty) (entry .count) (length (entry .bytes)) in
     let b = length-append four (listOf rest) in
     let k = list-length rest in
     omega arith
@@ -74,7 +72,7 @@ module _ (list row : List ℕ) where
       let numbers = fourBytes (entry .tag) (entry .ty) (entry .count) (length (entry .bytes)) in
       let here =
       one entry i at (w 0 (omega arith)) (front numbers (listOf entries) h) (front (entry .bytes) (rowOf entries) k) in
-      let e = four-length (entry .tag) (entry .ty) (entry .count) (length (entry .bytes)) in
+      let e = length-four (entry .tag) (entry .ty) (entry .count) (length (entry .bytes)) in
       let d = length-append (entry .bytes) (rowOf entries) in
       let later =
       each entries (i + 1) (at + length (entry .bytes)) (λ j l. w (suc j) (omega arith))
@@ -91,31 +89,31 @@ module _ (entries : List ListEntry) (w : Wide entries) where
   both-lent =
       each (listOf entries) (rowOf entries) entries 0 0 w (moved (omega arith) (all (listOf entries))) (all (rowOf entries))
 
-  pub lent-entries : entriesOf (listOf entries) (rowOf entries) ≡ entries
+  lent-entries : entriesOf (listOf entries) (rowOf entries) ≡ entries
   lent-entries = rw number-of (both-lent .0)
 
-  pub lent-form : FormRight (listOf entries) (rowOf entries)
+  lent-form : FormRight (listOf entries) (rowOf entries)
   lent-form = let k = list-length entries in record { whole = omega arith; meet = rw number-of (both-lent .1) }
 
--- two lists of entries, lent
-module _ (name : List ℕ) (signature header : List ListEntry) (ws : Wide signature) (wh : Wide header) where
+-- two lists of entries that may be written, lent
+module _ (name : List ℕ) (signature header : List ListEntry) (w : Writable name signature header) where
   pub lent-written : writtenOf name (listOf signature) (rowOf signature) (listOf header) (rowOf header)
       ≡ written name signature header
-  lent-written = rw (lent-entries signature ws, lent-entries header wh)
+  lent-written = rw (lent-entries signature (w .wideSigned), lent-entries header (w .wideHeaded))
 
-  pub lent-accepted : (room : ℕ) → LawfulName name → ListRight (sizeEntry 0 ∷ signature) → ListRight header
-      → length (written name signature header) ≤ packageLimit → length (written name signature header) ≤ room
-      → Accepted name (listOf signature) (rowOf signature) (listOf header) (rowOf header) room
-  lent-accepted room n s h l m =
-      record {
-        signedForm = lent-form signature ws;
-        headedForm = lent-form header wh;
-        named = n;
-        signed = rw (lent-entries signature ws) s;
-        headed = rw (lent-entries header wh) h;
-        limit = rw lent-written l;
-        fits = rw lent-written m;
-      }
+  pub lent-accepted : (room : ℕ) → length (written name signature header) ≤ room
+      → writeCheck name (listOf signature) (rowOf signature) (listOf header) (rowOf header) room ≡ Pass
+  lent-accepted room l =
+      accepted name (listOf signature) (rowOf signature) (listOf header) (rowOf header) room .1
+      (record {
+        signedForm = lent-form signature (w .wideSigned);
+        headedForm = lent-form header (w .wideHeaded);
+        named = w .named;
+        signed = rw (lent-entries signature (w .wideSigned)) (w .signed);
+        headed = rw (lent-entries header (w .wideHeaded)) (w .headed);
+        limit = rw lent-written (w .limit);
+        fits = rw lent-written l;
+      })
 
 -- the other way round: four bytes are those of their number
 bytes-back : (a b c d : ℕ) → a < 256 → b < 256 → c < 256 → d < 256
@@ -177,7 +175,10 @@ module _ (list row : List ℕ) (o : Octets list) where
   each-back : (n i at : ℕ) → length list ≡ 16 * (i + n) → at + sizesFrom list n i ≡ length row
       → (drop (16 * i) list ≡ listOf (entriesFrom list row n i at)) × (drop at row ≡ rowOf (entriesFrom list row n i at))
   unfolding entriesFrom sizesFrom listOf rowOf
-  each-back zero i at l m = (drop-of-length-le list {i = 16 * i} (omega arith), drop-of-length-le row {i = at} (omega arith))
+  each-back zero i at l m = (
+    drop-of-length-le list {i = 16 * i} (omega arith),
+    drop-of-length-le row {i = at} (omega arith),
+  )
   each-back (suc n) i at l m =
       let later = each-back n (i + 1) (at + sizeAt list i) (omega arith) (omega arith) in
       one-back i at (sizeAt list i) (entriesFrom list row n (i + 1) (at + sizeAt list i)) (omega arith) refl (omega arith)

@@ -3,12 +3,12 @@ pub mod ReasonLaws
 pub mod RecordLaws
 pub mod StructureLaws
 pub mod LeadLaws
+pub mod LentLaws
 pub mod ShownLaws
 pub mod PackageLaws
 pub mod NumberLaws
 pub mod WroteLaws
-pub mod LentLaws
-pub mod Trips
+pub mod TripTheorems
 pub mod TextLaws
 pub mod LawfulLaws
-pub mod Accepted
+pub mod AcceptedTheorem

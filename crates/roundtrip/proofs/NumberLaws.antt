@@ -9,6 +9,7 @@ use Rattle.lists.specs.Lists.{ListEntry}
 use Rattle.reasons.specs.Reasons.{entryReasons, entriesReasons, listReasons, nameReasons, formReasons, reasons}
 use Rattle.writer.specs.Writing.{roomCheck, writeCheck}
 
+-- a number of this writing's own
 abbrev Ours : ℕ → Type 0
 Ours number = (32 ≤ number) × (number ≤ 34)
 
@@ -20,7 +21,8 @@ module _ {number place : ℕ} where
       next _ _ _ _ k (omega arith) λ k. next _ _ _ _ k (omega arith) λ k. next _ _ _ _ k (omega arith)
       λ k. next _ _ _ _ k (omega arith) (pass-number 32 34)
 
-  entries-number : (seen : List ℕ) (entries : List ListEntry) → entriesReasons seen entries ≡ Fail number place → Ours number
+  entries-number : (seen : List ℕ) (entries : List ListEntry) → entriesReasons seen entries ≡ Fail number place
+      → Ours number
   unfolding entriesReasons
   entries-number seen [] k = pass-number 32 34 k
   entries-number seen (entry ∷ rest) k =

@@ -1,28 +1,25 @@
--- What refusals 32 to 34 leave, each as a fact for each test: an entry (EntryRight), a list (ListRight), a lent list's form
--- (FormRight), a name (LawfulName), and a writing that is accepted (Accepted). Each is passed exactly when its facts hold.
-use Prim.Native.Nat.{ℕ, zero, suc, _+_, _/_, _%_, _≤_, _<_}
+-- What refusals 32 to 34 leave, a fact for each test: of an entry (EntryRight), a list (ListRight), a lent list's form
+-- (FormRight), a name (LawfulName), and a writing (Accepted). Each run of tests passes exactly when its facts hold.
+use Prim.Native.Nat.{ℕ, _+_, _/_, _%_, _≤_, _<_}
 use mathlib.Core.Path.{_≡_, refl, sym, ap, _∙_}
 use mathlib.Core.Logic.{_↔_, _≢_}
 use mathlib.Core.List.{List, [], _∷_}
 use mathlib.Core.Bool.{Bool, true, false, not}
 use lib.ListN.{length, getD}
-use lib.Dec.{eqb, leb}
 use native.Mathlib.Omega.{arith}
 use borrow.Author.Tests.{eqb-true, eq-eqb, leb-true, le-leb, not-true}
-use Rattle.strings.specs.Strings.{stringsFrom, isEnded}
 use Rattle.strings.proofs.RowLaws.{single-among}
 use Rattle.format.specs.Sizes.{packageLimit, nindexLimit}
 use Rattle.format.specs.declared.verdict.Verdict.the-variants.{Pass}
-use Rattle.format.specs.Verdicts.{check, both}
 use Rattle.format.proofs.VerdictLaws.{passed, inverted, both-pass, both-inverted}
-use Rattle.entries.specs.Types.{elementSize}
 use Rattle.entries.specs.Entries.{typeLawful, countRight}
-use Rattle.put.specs.Puts.{bytesOf}
 use Rattle.lists.specs.Lists.{ListEntry, entriesOf, sizesFrom}
-use Rattle.reasons.specs.Reasons.{recordOf, dataExact, tagIn, entryReasons, entriesReasons, listReasons, sizeEntry, nameLimit}
+use Rattle.reasons.specs.Reasons.{recordOf, dataExact, tagIn, entryReasons, entriesReasons, listReasons, sizeEntry}
 use Rattle.reasons.specs.Reasons.{hasZero, nameReasons, formReasons, reasons}
+use Rattle.reasons.proofs.ReasonLaws.{own-passes}
+use Rattle.layout.specs.Layout.{written}
 use Rattle.writer.specs.Writing.{roomCheck, writtenOf, writeCheck}
-use Rattle.roundtrip.specs.Lawful.{LawfulName}
+use Rattle.roundtrip.specs.Lawful.{LawfulName, Wide}
 
 -- an entry behind others, of which the tags are given
 pub record EntryRight (seen : List ℕ) (entry : ListEntry) : Type 0 where
@@ -45,7 +42,8 @@ entry-right seen entry = (
 
 -- some entries: the first, and those behind it
 pub entries-right : (seen : List ℕ) (entry : ListEntry) (rest : List ListEntry)
-    → (entriesReasons seen (entry ∷ rest) ≡ Pass) ↔ (EntryRight seen entry × (entriesReasons (entry .tag ∷ seen) rest ≡ Pass))
+    → (entriesReasons seen (entry ∷ rest) ≡ Pass)
+    ↔ (EntryRight seen entry × (entriesReasons (entry .tag ∷ seen) rest ≡ Pass))
 unfolding entriesReasons
 entries-right seen entry rest = (
   λ h. let k = both-inverted _ _ h in (entry-right seen entry .0 (k .0), k .1),
@@ -68,10 +66,14 @@ list-right entries = (
 )
 
 -- 1000 passes whatever its number is
-pub size-right : (size : ℕ) (entries : List ListEntry)
-    → listReasons (sizeEntry size ∷ entries) ≡ listReasons (sizeEntry 0 ∷ entries)
-unfolding listReasons entriesReasons entryReasons dataExact elementSize bytesOf
-size-right size entries = refl
+pub size-right : (size : ℕ) (entries : List ListEntry) → ListRight (sizeEntry 0 ∷ entries)
+    → ListRight (sizeEntry size ∷ entries)
+size-right size entries r =
+    record {
+      some = r .some;
+      within = r .within;
+      each = own-passes size entries ∙ sym (own-passes 0 entries) ∙ r .each;
+    }
 
 -- a lent list
 pub record FormRight (list row : List ℕ) : Type 0 where
@@ -120,6 +122,15 @@ name-right name = (
       (passed _ _ (le-leb _ _ (r .within))
       (passed _ _ (ap not (zeroless name .1 (r .nonzero))) refl))),
 )
+
+-- a name and two lists of entries that may be written
+pub record Writable (name : List ℕ) (signature header : List ListEntry) : Type 0 where
+  pub named : LawfulName name
+  pub signed : ListRight (sizeEntry 0 ∷ signature)
+  pub headed : ListRight header
+  pub wideSigned : Wide signature
+  pub wideHeaded : Wide header
+  pub limit : length (written name signature header) ≤ packageLimit
 
 -- a writing that is accepted
 pub record Accepted (name signature signatureRow header headerRow : List ℕ) (room : ℕ) : Type 0 where

@@ -1,11 +1,11 @@
--- One entry of a structure that was written: its index record is read as it was put, passes checks 9 to 13, and its data is
--- the entry's (passes, reads). Where the next one stands: next-index, next-store, next-tags.
+-- One entry of a structure that was written (placed): its index record is read as it was put and passes checks 9 to 13, its
+-- data is the entry's, and the next entry's record and data stand behind them. The bytes that are read of it: bytes-read.
 use Prim.Native.Nat.{ℕ, suc, _+_, _-_, _*_, _%_, _≤_, _<_}
 use mathlib.Core.Path.{_≡_, refl, sym, ap, _∙_}
 use mathlib.Core.List.{List, _∷_, _++_}
 use mathlib.Core.Bool.{Bool, true, false, cond, not, _||_}
 use lib.ListN.{length, length-replicate}
-use lib.Dec.{eqb, leb}
+use lib.Dec.{eqb}
 use native.Mathlib.Omega.{arith}
 use native.Mathlib.Numerals.{add-one}
 use borrow.Author.Tests.{eqb-true, eq-eqb, le-leb}
@@ -17,7 +17,6 @@ use Rattle.format.specs.declared.section.Section.{Section}
 use Rattle.format.specs.declared.records.IndexRecord.{IndexRecord}
 use Rattle.format.specs.declared.verdict.Verdict.the-variants.{Pass}
 use Rattle.format.specs.Places.{recordPlace, storePlace, alignUp}
-use Rattle.format.specs.Records.{indexRecordAt}
 use Rattle.format.proofs.VerdictLaws.{passed}
 use Rattle.repeats.specs.Repeats.{tagBefore}
 use Rattle.entries.specs.declared.types.ElementSize.{ElementSize}
@@ -27,17 +26,14 @@ use Rattle.entries.specs.Entries.{recordAt, typeLawful, countRight, alignedTo, 
 use Rattle.entries.specs.Entries.{entryCheck, recordCheck}
 use Rattle.index.specs.Lookup.{entryOf, entryAt}
 use Rattle.lookups.specs.Lookup.{entryBytes}
-use Rattle.put.specs.Puts.{fourBytes, zeros}
+use Rattle.put.specs.Puts.{zeros}
+use Rattle.put.proofs.PutLaws.{length-four}
 use Rattle.lists.specs.Lists.{ListEntry}
 use Rattle.reasons.specs.Reasons.{recordOf, endsAt, exactFor, dataExact, tagIn}
 use Rattle.layout.specs.Layout.{alignFor, offsetFor, dataStart, dataStop, recordBytes}
-use Rattle.roundtrip.proofs.HoldsLaws.{Holds, front, rest, moved, part, four-length, four, strings}
+use Rattle.roundtrip.specs.Lawful.{WideEntry}
+use Rattle.roundtrip.proofs.HoldsLaws.{Holds, front, rest, moved, part, four, strings}
 use Rattle.roundtrip.proofs.ReasonLaws.{EntryRight}
-
--- the four numbers of an entry in a lent list are 32 bits wide
-abbrev pub WideEntry : ListEntry → Type 0
-WideEntry entry =
-    (entry .tag < 4294967296) × (entry .ty < 4294967296) × (entry .count < 4294967296) × (length (entry .bytes) < 4294967296)
 
 -- data goes to a place at or after that up to which the store is filled, and is aligned there
 aligned : (a b c d : Bool) (at : ℕ) (size : ElementSize)
@@ -110,9 +106,18 @@ unfolding entryCheck
 entry-pass s section i place e end a b c d f =
     sym (passed _ _ a (passed _ _ b (passed _ _ c (passed _ _ d (passed _ _ (ap not f) refl)))))
 
--- an entry whose record stands at place i of the index, and its data behind what fills the store up to a place
-module _ (p : List ℕ) (section : Section) (small : section .hsize < 4294967296) (entry : ListEntry) (seen index store : List ℕ)
-    (i filled : ℕ) (right : EntryRight seen entry) (wide : WideEntry entry)
+-- what an entry gives whose record stands at place i of the index, and its data behind what fills the store up to a place:
+-- it passes and reads so, and what is left of the index and the store stands where the next entry's record and data go
+pub record Placed (p : List ℕ) (section : Section) (entry : ListEntry) (seen index store : List ℕ) (i filled : ℕ) : Type 0
+  where
+    pub passes : recordCheck p section i ≡ Pass
+    pub reads : Reads p section i entry
+    pub indexed : Holds p (recordPlace section (i + 1)) index
+    pub stored : Holds p (storePlace section + dataStop filled entry) store
+    pub tags : (tag : ℕ) → tagBefore p section (i + 1) tag ≡ tagIn tag (entry .tag ∷ seen)
+
+module _ (p : List ℕ) (section : Section) (small : section .hsize < 4294967296) (entry : ListEntry)
+    (seen index store : List ℕ) (i filled : ℕ) (right : EntryRight seen entry) (wide : WideEntry entry)
     (indexed : Holds p (recordPlace section i) (recordBytes (recordOf entry (dataStart filled entry)) ++ index))
     (stored : Holds p (storePlace section + filled) (zeros (dataStart filled entry - filled) ++ (entry .bytes ++ store)))
     (fits : dataStop filled entry ≤ section .hsize) (tags : (tag : ℕ) → tagBefore p section i tag ≡ tagIn tag seen) where
@@ -137,25 +142,25 @@ module _ (p : List ℕ) (section : Section) (small : section .hsize < 4294967296
   ended =
       data-ends p section entry offset (elementSize (entry .ty)) (right .exact) (front (entry .bytes) store stands) fits
 
-  pub reads : Reads p section i entry
-  reads = record { offset = offset; read = read; stands = front (entry .bytes) store stands; ended = ended }
-
-  pub passes : recordCheck p section i ≡ Pass
+  passes : recordCheck p section i ≡ Pass
   passes =
       ap (λ (e : IndexRecord). entryCheck p section i (recordPlace section i) e (dataEnd p section e)) read
       ∙ entry-pass p section i (recordPlace section i) (recordOf entry offset) _ (right .typed)
       (count-same entry offset ∙ right .counted) (offset-right (entry .ty) filled .1) (ap isEnded ended)
       (tags (entry .tag) ∙ right .fresh)
 
-  pub next-tags : (tag : ℕ) → tagBefore p section (i + 1) tag ≡ tagIn tag (entry .tag ∷ seen)
+  next-tags : (tag : ℕ) → tagBefore p section (i + 1) tag ≡ tagIn tag (entry .tag ∷ seen)
   next-tags tag =
       let t : be32At p (recordPlace section i) ≡ entry .tag = ap (λ (e : IndexRecord). e .tag) read in
       rw (add-one i) (tag-step p section i tag ∙ rw (t, tags tag) (sym (in-step tag (entry .tag) seen)))
 
-  pub next-index : Holds p (recordPlace section (i + 1)) index
-  next-index =
-      let e = four-length (entry .tag) (entry .ty) offset (entry .count) in
-      moved (omega arith) (rest (recordBytes (recordOf entry offset)) index indexed)
-
-  pub next-store : Holds p (storePlace section + dataStop filled entry) store
-  next-store = moved (omega arith) (rest (entry .bytes) store stands)
+  pub placed : Placed p section entry seen index store i filled
+  placed =
+      let e = length-four (entry .tag) (entry .ty) offset (entry .count) in
+      record {
+        passes = passes;
+        reads = record { offset = offset; read = read; stands = front (entry .bytes) store stands; ended = ended };
+        indexed = moved (omega arith) (rest (recordBytes (recordOf entry offset)) index indexed);
+        stored = moved (omega arith) (rest (entry .bytes) store stands);
+        tags = next-tags;
+      }

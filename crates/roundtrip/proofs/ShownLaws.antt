@@ -1,7 +1,7 @@
 -- A structure whose records are a list's entries: look-ups find each entry (finds), a walk shows the list (all-shown), and
 -- the first entry is found by its tag alone (first-number).
-use Prim.Native.Nat.{ℕ, zero, suc, _+_, _≤_, _<_}
-use mathlib.Core.Path.{_≡_, refl, sym, ap, _∙_}
+use Prim.Native.Nat.{ℕ, suc, _+_, _≤_, _<_}
+use mathlib.Core.Path.{_≡_, refl, ap, _∙_}
 use mathlib.Core.List.{List, [], _∷_}
 use lib.ListN.{length}
 use native.Mathlib.Omega.{arith}
@@ -12,18 +12,16 @@ use Rattle.format.specs.declared.section.Section.{Section}
 use Rattle.format.specs.declared.records.IndexRecord.{IndexRecord}
 use Rattle.format.specs.declared.verdict.Verdict.the-variants.{Pass}
 use Rattle.format.specs.Places.{recordPlace, inFile}
-use Rattle.format.specs.Verdicts.{numberOf}
 use Rattle.entries.specs.Entries.{recordAt}
 use Rattle.index.specs.declared.Tagged.the-variants.{Present}
 use Rattle.index.specs.Lookup.{entryAt, taggedFrom, taggedIn}
 use Rattle.package.specs.Package.{soundCheck, structureOf}
 use Rattle.lookups.specs.declared.Sought.the-variants.{Here}
-use Rattle.lookups.specs.Lookup.{sought, soughtBytes, soughtAnswer}
+use Rattle.lookups.specs.Lookup.{sought, soughtBytes}
 use Rattle.lookups.proofs.FoundLaws.{found-of-record}
 use Rattle.walk.specs.Theorems.{recordsOf}
 use Rattle.walk.proofs.WalkLaws.{walk-visits-all}
 use Rattle.tags.specs.Tags.{numberIn, numberAt}
-use Rattle.put.specs.Puts.{bytesOf}
 use Rattle.lists.specs.Lists.{ListEntry}
 use Rattle.reasons.specs.Reasons.{sizeEntry}
 use Rattle.roundtrip.specs.Shown.{lookedUp, allLookedUp, shown}

@@ -1,11 +1,12 @@
--- A structure that was written: it passes checks 5 to 13 (structure-pass), each of its records is the entry's in its place
--- (structure-reads), and it ends where its bytes do (structure-end).
+-- A structure that was written, wherever it stands in a list: it passes checks 5 to 13, its records are the entries', in
+-- order, and it ends where its bytes do (structure-read).
 use Prim.Native.Nat.{ℕ, zero, suc, _+_, _-_, _*_, _≤_, _<_}
 use mathlib.Core.Path.{_≡_, refl, sym, ap, _∙_}
 use mathlib.Core.List.{List, [], _∷_, _++_}
 use lib.ListN.{length, length-append, length-replicate}
 use native.Mathlib.Omega.{arith}
 use borrow.Author.Tests.{le-leb}
+use Rattle.format.specs.Sizes.{nindexLimit}
 use Rattle.format.specs.declared.section.Section.{Section}
 use Rattle.format.specs.declared.verdict.Verdict.the-variants.{Pass}
 use Rattle.format.specs.Places.{recordPlace, storePlace, sectionEnd}
@@ -14,52 +15,33 @@ use Rattle.format.proofs.VerdictLaws.{passed, both-pass}
 use Rattle.repeats.specs.Repeats.{tagBefore}
 use Rattle.entries.specs.Entries.{recordCheck}
 use Rattle.structure.specs.Structure.{sectionOf, sectionAt, headerCheck, recordsFrom, recordsCheck, structureCheck}
-use Rattle.put.specs.Puts.{fourBytes, zeros}
+use Rattle.put.specs.Puts.{zeros}
+use Rattle.put.proofs.PutLaws.{length-four}
 use Rattle.lists.specs.Lists.{ListEntry}
-use Rattle.reasons.specs.Reasons.{recordOf, tagIn, entriesReasons}
-use Rattle.layout.specs.Layout.{dataStart, dataStop, recordBytes, indexFrom, storeFrom, headerBytes, structureBytes}
-use Rattle.roundtrip.specs.Lawful.{nth}
-use Rattle.roundtrip.proofs.HoldsLaws.{Holds, front, rest, moved, within, four-length, four}
-use Rattle.roundtrip.proofs.ReasonLaws.{EntryRight, entries-right, ListRight}
-use Rattle.roundtrip.proofs.RecordLaws.{WideEntry, offset-right, Reads, reads, passes, next-tags, next-index, next-store}
+use Rattle.reasons.specs.Reasons.{tagIn, entriesReasons}
+use Rattle.layout.specs.Layout.{dataStart, dataStop, indexFrom, storeFrom, headerBytes, structureBytes}
+use Rattle.writer.proofs.TurnLaws.{index-step, store-step}
+use Rattle.writer.proofs.StructureLaws.{index-length, structure-length}
+use Rattle.roundtrip.specs.Lawful.{nth, Wide}
+use Rattle.roundtrip.proofs.HoldsLaws.{Holds, front, rest, moved, within, four}
+use Rattle.roundtrip.proofs.ReasonLaws.{entries-right, ListRight}
+use Rattle.roundtrip.proofs.RecordLaws.{offset-right, Reads, placed}
 
--- each entry of a list
-abbrev pub Wide : List ListEntry → Type 0
-Wide entries = (i : ℕ) → i < length entries → WideEntry (nth entries i)
-
-abbrev pub ReadsFrom : List ℕ → Section → ℕ → List ListEntry → Type 0
+-- the records from place i of the index on are a list's entries
+abbrev ReadsFrom : List ℕ → Section → ℕ → List ListEntry → Type 0
 ReadsFrom p section i entries = (k : ℕ) → k < length entries → Reads p section (i + k) (nth entries k)
 
-index-step : (filled : ℕ) (entry : ListEntry) (rest : List ListEntry) → indexFrom filled (entry ∷ rest)
-    ≡ recordBytes (recordOf entry (dataStart filled entry)) ++ indexFrom (dataStop filled entry) rest
-unfolding indexFrom
-index-step filled entry rest = refl
-
-store-step : (filled : ℕ) (entry : ListEntry) (rest : List ListEntry) → storeFrom filled (entry ∷ rest)
-    ≡ zeros (dataStart filled entry - filled) ++ (entry .bytes ++ storeFrom (dataStop filled entry) rest)
-unfolding storeFrom
-store-step filled entry rest = refl
-
 -- how much of the store is left to fill
-pub store-room : (filled : ℕ) (entry : ListEntry) (rest : List ListEntry)
+store-room : (filled : ℕ) (entry : ListEntry) (rest : List ListEntry)
     → filled + length (storeFrom filled (entry ∷ rest))
     ≡ dataStop filled entry + length (storeFrom (dataStop filled entry) rest)
 store-room filled entry rest =
     let g = offset-right (entry .ty) filled .0 in
-    let a = length-append (zeros (dataStart filled entry - filled)) (entry .bytes ++ storeFrom (dataStop filled entry) rest) in
-    let b = length-append (entry .bytes) (storeFrom (dataStop filled entry) rest) in
+    let store = storeFrom (dataStop filled entry) rest in
+    let a = length-append (zeros (dataStart filled entry - filled)) (entry .bytes ++ store) in
+    let b = length-append (entry .bytes) store in
     let c = length-replicate {A = ℕ} (dataStart filled entry - filled) 0 in
     rw (store-step filled entry rest) (omega arith)
-
-index-length : (filled : ℕ) (entries : List ListEntry) → length (indexFrom filled entries) ≡ 16 * length entries
-unfolding indexFrom
-index-length filled [] = refl
-index-length filled (entry ∷ rest) =
-    let e = recordOf entry (dataStart filled entry) in
-    let a = four-length (entry .tag) (entry .ty) (dataStart filled entry) (entry .count) in
-    let b = length-append (recordBytes e) (indexFrom (dataStop filled entry) rest) in
-    let k = index-length (dataStop filled entry) rest in
-    omega arith
 
 pass-step : (p : List ℕ) (section : Section) (n i : ℕ) → recordCheck p section i ≡ Pass
     → recordsFrom p section n (i + 1) ≡ Pass → recordsFrom p section (suc n) i ≡ Pass
@@ -92,20 +74,17 @@ module _ (p : List ℕ) (section : Section) (small : section .hsize < 4294967296
       let fits : dataStop filled entry ≤ section .hsize = omega arith in
       let hi′ = rw (index-step filled entry rest) at hi in
       let hs′ = rw (store-step filled entry rest) at hs in
-      let w′ : WideEntry entry = w 0 (omega arith) in
+      let one =
+      placed p section small entry seen index store i filled (k .0) (w 0 (omega arith)) hi′ hs′ fits t in
       let later =
       records rest (entry .tag ∷ seen) (i + 1) (dataStop filled entry) (k .1) (λ j l. w (suc j) (omega arith))
-      (next-index p section small entry seen index store i filled (k .0) w′ hi′ hs′ fits t)
-      (next-store p section small entry seen index store i filled (k .0) w′ hi′ hs′ fits t)
-      (omega arith)
-      (next-tags p section small entry seen index store i filled (k .0) w′ hi′ hs′ fits t) in (
-        pass-step p section (length rest) i
-            (passes p section small entry seen index store i filled (k .0) w′ hi′ hs′ fits t) (later .0),
-        reads-step p section i entry rest
-            (reads p section small entry seen index store i filled (k .0) w′ hi′ hs′ fits t) (later .1),
+      (one .indexed) (one .stored) (omega arith) (one .tags) in (
+        pass-step p section (length rest) i (one .passes) (later .0),
+        reads-step p section i entry rest (one .reads) (later .1),
       )
 
-header-pass : (len start nindex hsize : ℕ) → 1 ≤ nindex → nindex ≤ 512 → start + 16 + 16 * nindex + hsize ≤ len
+header-pass : (len start nindex hsize : ℕ) → 1 ≤ nindex → nindex ≤ nindexLimit
+    → start + 16 + 16 * nindex + hsize ≤ len
     → headerCheck len start (record { magic = 0x8EADE801; reserved = 0; nindex = nindex; hsize = hsize }) ≡ Pass
 unfolding headerCheck
 header-pass len start nindex hsize a b c =
@@ -121,7 +100,13 @@ no-tags : (p : List ℕ) (section : Section) (tag : ℕ) → tagBefore p section
 unfolding tagBefore tagIn
 no-tags p section tag = refl
 
--- a structure that stands in a list
+-- a structure as it is read: it passes checks 5 to 13, its records are the entries', and it ends where its bytes do
+pub record StructureRead (p : List ℕ) (start : ℕ) (entries : List ListEntry) : Type 0 where
+  pub passes : structureCheck p (length p) start ≡ Pass
+  pub count : sectionAt p start .nindex ≡ length entries
+  pub reads : (k : ℕ) → k < length entries → Reads p (sectionAt p start) k (nth entries k)
+  pub end : sectionEnd (sectionAt p start) ≡ start + length (structureBytes entries)
+
 module _ (p : List ℕ) (start : ℕ) (entries : List ListEntry) (right : ListRight entries) (wide : Wide entries)
     (small : length (storeFrom 0 entries) < 4294967296) (h : Holds p start (structureBytes entries)) where
   abbrev section : Section
@@ -148,7 +133,7 @@ module _ (p : List ℕ) (start : ℕ) (entries : List ListEntry) (right : ListRi
 
   behind-head : Holds p (start + 16) (indexFrom 0 entries ++ storeFrom 0 entries)
   behind-head =
-      let e = four-length 0x8EADE801 0 (length entries) (length (storeFrom 0 entries)) in
+      let e = length-four 0x8EADE801 0 (length entries) (length (storeFrom 0 entries)) in
       moved (omega arith) (rest head (indexFrom 0 entries ++ storeFrom 0 entries) parts)
 
   store : Holds p (storePlace section + 0) (storeFrom 0 entries)
@@ -162,9 +147,9 @@ module _ (p : List ℕ) (start : ℕ) (entries : List ListEntry) (right : ListRi
       (moved (omega arith) (front (indexFrom 0 entries) (storeFrom 0 entries) behind-head)) store (omega arith)
       (no-tags p section)
 
-  pub structure-pass : structureCheck p (length p) start ≡ Pass
+  passes : structureCheck p (length p) start ≡ Pass
   unfolding structureCheck
-  structure-pass =
+  passes =
       let w = within store in
       let a =
       header-pass (length p) start (length entries) (length (storeFrom 0 entries)) (right .some) (right .within)
@@ -172,17 +157,12 @@ module _ (p : List ℕ) (start : ℕ) (entries : List ListEntry) (right : ListRi
       both-pass (ap (headerCheck (length p) start) header-read ∙ a)
       ∙ ap (λ (x : Section). recordsCheck p x) section-read ∙ both-read .0
 
-  pub structure-reads : (k : ℕ) → k < length entries → Reads p (sectionAt p start) k (nth entries k)
-  structure-reads k l = let e : 0 + k ≡ k = omega arith in rw section-read (rw e at (both-read .1 k l))
-
-  pub structure-count : sectionAt p start .nindex ≡ length entries
-  structure-count = ap (λ (x : Section). x .nindex) section-read
-
-  pub structure-end : sectionEnd (sectionAt p start) ≡ start + length (structureBytes entries)
-  unfolding structureBytes
-  structure-end =
-      let a = four-length 0x8EADE801 0 (length entries) (length (storeFrom 0 entries)) in
-      let b = index-length 0 entries in
-      let c = length-append (indexFrom 0 entries) (storeFrom 0 entries) in
-      let d = length-append head (indexFrom 0 entries ++ storeFrom 0 entries) in
-      ap sectionEnd section-read ∙ omega arith
+  pub structure-read : StructureRead p start entries
+  structure-read =
+      let e = structure-length entries in
+      record {
+        passes = passes;
+        count = ap (λ (x : Section). x .nindex) section-read;
+        reads = λ k l. let e : 0 + k ≡ k = omega arith in rw section-read (rw e at (both-read .1 k l));
+        end = ap sectionEnd section-read ∙ omega arith;
+      }

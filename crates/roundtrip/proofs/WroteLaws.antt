@@ -1,17 +1,18 @@
 -- What the writing's promise says where it is accepted: the answer and the buffer (done, stands), and that the number is 0
 -- exactly there (zero-number).
-use Prim.Native.Nat.{ℕ, _+_, _≤_}
+use Prim.Native.Nat.{ℕ, _≤_}
 use mathlib.Core.Path.{_≡_, refl, sym, ap, _∙_}
 use mathlib.Core.Logic.{_↔_}
 use mathlib.Core.List.{List, _++_}
 use lib.ListN.{length, take, drop}
-use lib.Seq.{sets, sets-eq, take-at, drop-at}
+use lib.Seq.{take-at, drop-at}
 use native.Mathlib.Omega.{arith}
 use Rattle.format.specs.declared.verdict.Verdict.{Verdict}
 use Rattle.format.specs.declared.verdict.Verdict.the-variants.{Pass, Fail}
 use Rattle.format.specs.declared.verdict.Answer.{Answer}
 use Rattle.format.specs.declared.verdict.Answer.the-variants.{Done}
 use Rattle.format.specs.Verdicts.{numberOf}
+use Rattle.put.proofs.PutLaws.{at-front}
 use Rattle.writer.specs.Writing.{writtenOf, writeCheck, answerAs, bufferAs, Wrote}
 use Rattle.roundtrip.proofs.ReasonLaws.{accepted}
 use Rattle.roundtrip.proofs.NumberLaws.{write-number}
@@ -50,9 +51,8 @@ module _ {name signature signatureRow header headerRow before after : List ℕ} 
   stands n v size =
       let a = accepted name signature signatureRow header headerRow (length before) .0 v in
       let f = a .fits in
-      let e : 0 + length bytes ≡ n = omega arith in
       let whole : after ≡ bytes ++ drop n before =
-      w .left ∙ ap (λ (v : Verdict). bufferAs v bytes before) v ∙ sets-eq bytes before 0 (omega arith) ∙ rw e in (
+      w .left ∙ ap (λ (v : Verdict). bufferAs v bytes before) v ∙ at-front before bytes f ∙ rw size in (
         w .answered ∙ ap (λ (v : Verdict). answerAs v bytes) v ∙ rw size,
         rw whole (take-at bytes (drop n before) n size),
         rw whole (drop-at bytes (drop n before) n size),

@@ -44,13 +44,20 @@ pub record LawfulName (name : List ℕ) : Type 0 where
   pub within : length name ≤ nameLimit
   pub nonzero : (i : ℕ) → i < length name → getD name i 0 ≢ 0
 
+-- an entry's four numbers, 32 bits each: tag, type, count, and the size of its data
+abbrev pub WideEntry : ListEntry → Type 0
+WideEntry entry =
+    (entry .tag < 4294967296) × (entry .ty < 4294967296) × (entry .count < 4294967296)
+    × (length (entry .bytes) < 4294967296)
+
+abbrev pub Wide : List ListEntry → Type 0
+Wide entries = (i : ℕ) → i < length entries → WideEntry (nth entries i)
+
 -- a list of entries as it is lent: each entry's four numbers in 16 bytes, and the data in a row
 pub record LentAs (list row : List ℕ) (entries : List ListEntry) : Type 0 where
   pub numbers : list ≡ listOf entries
   pub rows : row ≡ rowOf entries
-  pub wide : (i : ℕ) → i < length entries
-      → (nth entries i .tag < 4294967296) × (nth entries i .ty < 4294967296) × (nth entries i .count < 4294967296)
-      × (length (nth entries i .bytes) < 4294967296)
+  pub wide : Wide entries
 
 -- what may be written into a buffer with so much room
 pub record LawfulWriting (name signature signatureRow header headerRow : List ℕ) (room : ℕ) : Type 0 where

@@ -1,9 +1,9 @@
--- Request 1: what is written is read back, entry for entry, and written again, byte for byte. Stated over what the public calls
--- promise: the writing (Wrote), walks and look-ups. Each is proved in proofs/ under its name in small letters.
-use Prim.Native.Nat.{ℕ, _+_, _-_, _≤_, _<_}
+-- Request 1: what is written is read back, entry for entry, and written again, byte for byte. Stated over what the public
+-- calls promise: the writing (Wrote), walks and look-ups. Each is proved in proofs/ under its name in small letters.
+use Prim.Native.Nat.{ℕ, _-_, _≤_, _<_}
 use mathlib.Core.Path.{_≡_}
 use mathlib.Core.Logic.{_↔_, _≢_}
-use mathlib.Core.List.{List, [], _∷_}
+use mathlib.Core.List.{List, _∷_}
 use lib.ListN.{length, take, drop, getD}
 use Rattle.strings.specs.Strings.{nextZero}
 use Rattle.format.specs.declared.verdict.Verdict.the-variants.{Pass}

@@ -1,5 +1,5 @@
 -- A structure from its parts (structure-put), the signature with 1000 first (signature-put), two parts in a row (data-put) and
--- four numbers (four-numbers); how long they are (structure-length, signature-length).
+-- four numbers (four-numbers); how long they are (index-length, structure-length, signature-length).
 use Prim.Native.Nat.{ℕ, suc, _+_, _-_, _*_, _≤_}
 use mathlib.Core.Path.{_≡_, refl, sym, ap, _∙_}
 use mathlib.Core.List.{List, [], _∷_, _++_}
@@ -30,7 +30,7 @@ data-put out at gap bytes p q =
     let c = length-replicate {A = ℕ} gap 0 in
     behind out at (zeros gap) bytes p q (omega arith)
 
-index-length : (filled : ℕ) (entries : List ListEntry) → length (indexFrom filled entries) ≡ 16 * length entries
+pub index-length : (filled : ℕ) (entries : List ListEntry) → length (indexFrom filled entries) ≡ 16 * length entries
 unfolding indexFrom fourBytes bytesOf
 index-length filled [] = refl
 index-length filled (entry ∷ rest) = let k = index-length (dataStop filled entry) rest in omega arith

@@ -1,15 +1,14 @@
 -- A writing is accepted exactly when the rules hold: the theorem accepted-exactly of specs/Theorems.
-use Prim.Native.Nat.{ℕ, _≤_}
-use mathlib.Core.Path.{_≡_, refl, sym, ap, _∙_}
-use mathlib.Core.Logic.{_↔_}
+use Prim.Native.Nat.{ℕ}
+use mathlib.Core.Path.{_≡_}
 use mathlib.Core.List.{List}
 use lib.ListN.{length}
 use Rattle.format.specs.declared.verdict.Verdict.the-variants.{Pass}
-use Rattle.lists.specs.Lists.{listOf, rowOf, entriesOf}
+use Rattle.lists.specs.Lists.{entriesOf}
 use Rattle.writer.specs.Writing.{writeCheck}
 use Rattle.roundtrip.specs.Lawful.{LentAs, LawfulWriting}
 use Rattle.roundtrip.specs.Theorems.{Octets, AcceptedExactly}
-use Rattle.roundtrip.proofs.ReasonLaws.{FormRight, accepted}
+use Rattle.roundtrip.proofs.ReasonLaws.{FormRight, Writable, accepted}
 use Rattle.roundtrip.proofs.WroteLaws.{zero-number}
 use Rattle.roundtrip.proofs.LentLaws.{wide-of, lent-accepted, form-lent}
 use Rattle.roundtrip.proofs.LawfulLaws.{headed-lawful, signed-lawful}
@@ -47,12 +46,16 @@ module _ (name signature signatureRow header headerRow : List ℕ) (room : ℕ) 
   passes r =
       let s = r .signedLent in
       let t = r .headedLent in
-      let a =
-      lent-accepted name (r .signed) (r .headed) (s .wide) (t .wide) room (r .named)
-      (signed-lawful (r .signed) .1 (r .fewSigned, r .signedLawful, r .notSize))
-      (headed-lawful (r .headed) .1 (r .someHeaded, r .fewHeaded, r .headedLawful)) (r .limit) (r .fits) in
-      rw (s .numbers, s .rows, t .numbers, t .rows)
-      (accepted name (listOf (r .signed)) (rowOf (r .signed)) (listOf (r .headed)) (rowOf (r .headed)) room .1 a)
+      let w : Writable name (r .signed) (r .headed) =
+      record {
+        named = r .named;
+        signed = signed-lawful (r .signed) .1 (r .fewSigned, r .signedLawful, r .notSize);
+        headed = headed-lawful (r .headed) .1 (r .someHeaded, r .fewHeaded, r .headedLawful);
+        wideSigned = s .wide;
+        wideHeaded = t .wide;
+        limit = r .limit;
+      } in
+      rw (s .numbers, s .rows, t .numbers, t .rows) (lent-accepted name (r .signed) (r .headed) w room (r .fits))
 
 pub accepted-exactly : AcceptedExactly
 accepted-exactly name signature signatureRow header headerRow before after answer os oh w =
