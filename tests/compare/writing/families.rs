@@ -335,7 +335,7 @@ fn extreme_tag(
 
 /// Changes some bytes, cuts a part off, or makes it longer.
 fn changed(desk: &mut Desk, random: &mut Random) {
-    for _ in 0..20_000 {
+    for _ in 0..40_000 {
         let mut lent = small(random).lent();
         for _ in 0..1 + random.below(2) {
             let part = &mut lent.0[random.below(5)];
@@ -357,10 +357,10 @@ fn changed(desk: &mut Desk, random: &mut Random) {
 
 /// Entries of any small numbers, mostly lawful.
 fn any_lists(desk: &mut Desk, random: &mut Random) {
-    for _ in 0..30_000 {
+    for _ in 0..60_000 {
         let mut lists = small(random);
         for structure in [SIGNATURE, HEADER] {
-            let count = random.below(4);
+            let count = random.below(4) + usize::from(structure == HEADER);
             lists.entries[structure] = (0..count).map(|_| any_entry(random)).collect();
         }
         desk.unknown(random, &lists.lent());
@@ -368,7 +368,10 @@ fn any_lists(desk: &mut Desk, random: &mut Random) {
 }
 
 fn any_entry(random: &mut Random) -> Entry {
-    let tag = random.pick(&[1, 2, 3, 4, 5, 6, 7, 999, 1000, 1001]);
+    let tag = match random.below(40) {
+        0 => 1000,
+        _ => 990 + random.below(20) as u32,
+    };
     let ty = match random.below(20) {
         0 => random.below(12) as u32,
         _ => random.pick(&LAWFUL),
