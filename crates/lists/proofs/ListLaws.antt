@@ -1,5 +1,5 @@
 -- The entries of a lent list, turn by turn: entries-step, entries-none, and how many there are, entries-total. Their sizes
--- together: sizes-turn, sizes-past, sizes-spent. A part is no longer than what it is a part of: part-short. An entry's 16
+-- together: sizes-step, sizes-turn, sizes-past, sizes-spent. A part is no longer than what it is a part of: part-short. An entry's 16
 -- bytes: record-read, record-past, record-whole.
 use Prim.Native.Nat.{ℕ, zero, suc, _+_, _-_, _*_, _≤_, _<_}
 use mathlib.Core.Path.{_≡_, refl, sym, ap, _∙_}
@@ -65,6 +65,9 @@ size-step : (list : List ℕ) (n i : ℕ) → sizesFrom list (suc n) i ≡ sizeA
 unfolding sizesFrom
 size-step list n i = refl
 
+pub sizes-step : (list : List ℕ) (n i : ℕ) → i < n → sizesFrom list (n - i) i ≡ sizeAt list i + sizesFrom list (n - (i + 1)) (i + 1)
+sizes-step list n i l = let k : n - i ≡ suc (n - (i + 1)) = omega arith in rw k (size-step list (n - (i + 1)) i)
+
 size-none : (list : List ℕ) (i : ℕ) → sizesFrom list 0 i ≡ 0
 unfolding sizesFrom
 size-none list i = refl
@@ -87,7 +90,7 @@ less a b c l = go (eqb b (c - a)) refl
 module _ (list : List ℕ) (n i left : ℕ) {v : Bool} (inv : v ≡ eqb (sizesFrom list (n - i) i) left) where
   module _ {size : ℕ} (p : size ≡ sizeAt list i) (l : i < n) where
     sizes : sizesFrom list (n - i) i ≡ size + sizesFrom list (n - (i + 1)) (i + 1)
-    sizes = let k : n - i ≡ suc (n - (i + 1)) = omega arith in rw k (size-step list (n - (i + 1)) i ∙ rw p)
+    sizes = sizes-step list n i l ∙ rw p
 
     pub sizes-turn : size ≤ left → v ≡ eqb (sizesFrom list (n - (i + 1)) (i + 1)) (left - size)
     sizes-turn h = inv ∙ rw sizes (less size (sizesFrom list (n - (i + 1)) (i + 1)) left h)

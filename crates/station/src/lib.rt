@@ -50,13 +50,5 @@ pub extern "C" fn station_write(
 ) -> u64
     ensures { λ r. ⌜ StationWrite (now (name .entry)) (now (signature .entry)) (now («signature_data» .entry)) (now (header .entry)) (now («header_data» .entry)) (now (out .entry)) r (now (out .exit)) ⌝ }
 {
-    writer::write(
-        name,
-        signature,
-        signature_data,
-        header,
-        header_data,
-        out,
-    )
-    .packed()
+    writer::write(name, signature, signature_data, header, header_data, out).packed()
 }

@@ -19,7 +19,7 @@ use Rattle.writer.specs.declared.Sizes.{Sizes}
 use Rattle.writer.specs.declared.Plan.{Plan}
 use Rattle.writer.specs.declared.Plan.the-variants as plan
 use Rattle.writer.specs.Writing.{roomCheck, writtenOf}
-use Rattle.writer.specs.Sizes.{signatureEnd, signatureStore, headerStore, sizesWith, sizesOf, planned}
+use Rattle.writer.specs.Sizes.{Listed, structureSize, signatureStore, headerStore, sizesWith, sizesOf, planned}
 use Rattle.writer.proofs.StructureLaws.{structure-length, signature-length}
 
 -- data of the sizes that a list says takes at least its own length in a store
@@ -84,22 +84,21 @@ module _ (sig sigs head heads : List ℕ) where
     start-is : sizes .start ≡ (96 + (16 + 16 * (length sig / 16 + 1) + sizes .signature) + 7) / 8 * 8
     start-is = rw z
 
-    module _ {room end : ℕ} (few : length sig / 16 ≤ 512) (short : length sigs ≤ 65536) (some : length head / 16 ≤ 512)
-        (brief : length heads ≤ 65536) (fits : sizes .length ≤ room) (small : sizes .length ≤ 65536) (e : end ≡ room) where
-      pub signature-ready : (length sig / 16 ≤ 512) × (length sigs ≤ 65536)
-          × (sizes .signature ≡ 4 + length (storeFrom 4 (entriesOf sig sigs)))
-          × (96 + (32 + 16 * (length sig / 16) + sizes .signature) ≤ end) × (sizes .signature ≤ 65536)
-      signature-ready =
+    module _ {room end : ℕ} (fits : sizes .length ≤ room) (small : sizes .length ≤ 65536) (e : end ≡ room) where
+      pub signature-ready : Listed sig sigs
+          → Listed sig sigs × (sizes .signature ≡ signatureStore sig sigs)
+          × (96 + structureSize (length sig / 16 + 1) (sizes .signature) ≤ end) × (sizes .signature ≤ 65536)
+      signature-ready h =
           let a = number-fits in
           let b = gap-fits in
-          (few, short, rw z, omega arith, omega arith)
+          (h, rw z, omega arith, omega arith)
 
-      pub header-ready : (length head / 16 ≤ 512) × (length heads ≤ 65536)
-          × (sizes .header ≡ length (storeFrom 0 (entriesOf head heads)))
-          × (sizes .start + (16 + 16 * (length head / 16) + sizes .header) ≤ end) × (sizes .header ≤ 65536)
-      header-ready =
+      pub header-ready : Listed head heads
+          → Listed head heads × (sizes .header ≡ headerStore head heads)
+          × (sizes .start + structureSize (length head / 16) (sizes .header) ≤ end) × (sizes .header ≤ 65536)
+      header-ready h =
           let a : sizes .length ≡ sizes .start + (16 + 16 * (length head / 16) + sizes .header) = rw z in
-          (some, brief, rw z, omega arith, omega arith)
+          (h, rw z, omega arith, omega arith)
 
     -- the four parts, one behind the other
     pub package-put : (out name : List ℕ) {o₁ o₂ o₃ o₄ : List ℕ} → o₁ ≡ sets out 0 (leadBytes name)

@@ -1,4 +1,4 @@
--- A structure from its parts (structure-put), the signature with 1000 first (signature-put), two parts in a row (data-put) and
+-- A structure from its parts (structure-put), the signature with 1000 first (signature-put), zero bytes and data (data-alone, data-put) and
 -- four numbers (four-numbers); how long they are (index-length, structure-length, signature-length).
 use Prim.Native.Nat.{ℕ, suc, _+_, _-_, _*_, _≤_}
 use mathlib.Core.Path.{_≡_, refl, sym, ap, _∙_}
@@ -23,6 +23,10 @@ four-numbers out at a b c d p q r s =
     (behind out at (bytesOf a ++ bytesOf b) (bytesOf c) (behind out at (bytesOf a) (bytesOf b) p q refl) r refl)
     s
     refl
+
+pub data-alone : (out : List ℕ) (at : ℕ) {gap : ℕ} (bytes : List ℕ) {o : List ℕ} → gap ≡ 0 → o ≡ sets out at bytes
+    → o ≡ sets out at (zeros gap ++ bytes)
+data-alone out at bytes z p = p ∙ rw z
 
 pub data-put : (out : List ℕ) (at gap : ℕ) (bytes : List ℕ) {o₁ o₂ : List ℕ} → o₁ ≡ sets out at (zeros gap)
     → o₂ ≡ sets o₁ (at + gap) bytes → o₂ ≡ sets out at (zeros gap ++ bytes)

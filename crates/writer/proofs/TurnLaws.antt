@@ -1,16 +1,16 @@
 -- A walk over a lent list, turn by turn: the store's end (end-turn, end-spent), the index (index-turn, index-spent), the store
--- (store-turn, store-spent, and the room that is left: data-room, store-room).
+-- (store-turn, store-spent, and the room that is left: data-room, store-room), and the row that is left (row-turn).
 use Prim.Native.Nat.{ℕ, _+_, _-_, _*_, _≤_, _<_}
 use mathlib.Core.Path.{_≡_, refl, sym, ap, _∙_}
 use mathlib.Core.List.{List, [], _∷_, _++_, append-assoc}
-use lib.ListN.{length, take, drop, length-append, length-replicate}
+use lib.ListN.{length, take, drop, length-append, length-replicate, length-take, length-drop}
 use lib.Seq.{sets}
 use native.Mathlib.Omega.{arith}
 use Rattle.put.specs.Puts.{zeros, fourBytes}
 use Rattle.put.proofs.PutLaws.{sets-append, length-four}
 use Rattle.lists.specs.declared.ListRecord.{ListRecord}
-use Rattle.lists.specs.Lists.{ListEntry, listRecordAt, recordShown, sizeAt, entryAt, entriesFrom}
-use Rattle.lists.proofs.ListLaws.{record-whole, entries-step, entries-none}
+use Rattle.lists.specs.Lists.{ListEntry, listRecordAt, recordShown, sizeAt, entryAt, entriesFrom, sizesFrom}
+use Rattle.lists.proofs.ListLaws.{record-whole, entries-step, entries-none, sizes-step}
 use Rattle.reasons.specs.Reasons.{recordOf}
 use Rattle.layout.specs.Layout.{recordBytes, offsetFor, dataStart, dataStop, indexFrom, storeFrom}
 
@@ -35,82 +35,99 @@ unfolding storeFrom
 store-none filled = refl
 
 -- in the shape of what is known in a turn
-module _ (list row : List ℕ) (n i at filled : ℕ) (w : 16 * n ≤ length list) (l : i < n) {e : ListRecord} {offset : ℕ}
-    {bytes : List ℕ} (q : e ≡ recordShown list i) (b : bytes ≡ take (e .size) (drop at row))
-    (o : offset ≡ offsetFor (e .ty) filled) where
+module _ (list row : List ℕ) (n i at filled : ℕ) (w : 16 * n ≤ length list) (f : at + sizesFrom list (n - i) i ≡ length row)
+    (l : i < n) {e : ListRecord} (q : e ≡ recordShown list i) where
   p : e ≡ listRecordAt list i
   p = record-whole list n i w l q
 
-  size-here : sizeAt list i ≡ e .size
-  size-here = rw p
+  sizes-here : sizesFrom list (n - i) i ≡ e .size + sizesFrom list (n - (i + 1)) (i + 1)
+  sizes-here = sizes-step list n i l ∙ rw p
 
-  bytes-here : entryAt list row i at .bytes ≡ bytes
-  bytes-here = sym (b ∙ rw p)
+  pub row-turn : at + e .size + sizesFrom list (n - (i + 1)) (i + 1) ≡ length row
+  row-turn = let k = sizes-here in omega arith
 
-  start-here : dataStart filled (entryAt list row i at) ≡ offset
-  start-here = sym (o ∙ rw p)
+  bytes-long : length (take (e .size) (drop at row)) ≡ e .size
+  bytes-long =
+      let a = sizes-here in
+      let b = length-take (e .size) (drop at row) in
+      let c = length-drop at row in
+      omega arith
 
-  stop-here : dataStop filled (entryAt list row i at) ≡ offset + length bytes
-  stop-here = rw (start-here, bytes-here)
+  bytes-here : entryAt list row i at .bytes ≡ take (e .size) (drop at row)
+  bytes-here = rw p
 
   next : entriesFrom list row (n - (i + 1)) (i + 1) (at + sizeAt list i)
       ≡ entriesFrom list row (n - (i + 1)) (i + 1) (at + e .size)
   next = rw p
 
-  pub index-turn : (out : List ℕ) (place : ℕ) {v after : List ℕ}
-      → v ≡ sets out (place + 16 * i) (indexFrom filled (entriesFrom list row (n - i) i at))
-      → after ≡ sets out (place + 16 * i) (fourBytes (e .tag) (e .ty) offset (e .count))
-      → v ≡ sets after (place + 16 * (i + 1))
-      (indexFrom (offset + length bytes) (entriesFrom list row (n - (i + 1)) (i + 1) (at + e .size)))
-  index-turn out place inv g =
-      let four = fourBytes (e .tag) (e .ty) offset (e .count) in
-      let f = length-four (e .tag) (e .ty) offset (e .count) in
-      let k : place + 16 * (i + 1) ≡ place + 16 * i + length four = omega arith in
-      let here : recordBytes (recordOf (entryAt list row i at) offset) ≡ four = rw p in
-      inv
-      ∙ rw (entries-step list row n i at l) (rw (index-step filled (entryAt list row i at) _)
-      (rw (stop-here, start-here, next, here, k, g)
-      (sets-append out (place + 16 * i) four
-      (indexFrom (offset + length bytes) (entriesFrom list row (n - (i + 1)) (i + 1) (at + e .size))))))
+  module _ {offset : ℕ} (o : offset ≡ offsetFor (e .ty) filled) where
+    start-here : dataStart filled (entryAt list row i at) ≡ offset
+    start-here = sym (o ∙ rw p)
 
-  pub store-turn : (out : List ℕ) (to : ℕ) {v after : List ℕ}
-      → v ≡ sets out to (storeFrom filled (entriesFrom list row (n - i) i at))
-      → after ≡ sets out to (zeros (offset - filled) ++ bytes)
-      → v ≡ sets after (to + (offset - filled + length bytes))
-      (storeFrom (offset + length bytes) (entriesFrom list row (n - (i + 1)) (i + 1) (at + e .size)))
-  store-turn out to inv g =
-      let rest = storeFrom (offset + length bytes) (entriesFrom list row (n - (i + 1)) (i + 1) (at + e .size)) in
-      let c = length-replicate {A = ℕ} (offset - filled) 0 in
-      let d = length-append (zeros (offset - filled)) bytes in
-      let k : to + length (zeros (offset - filled) ++ bytes) ≡ to + (offset - filled + length bytes) = omega arith in
-      inv
-      ∙ rw (entries-step list row n i at l) (rw (store-step filled (entryAt list row i at) _)
-      (rw (stop-here, start-here, bytes-here, next)
-      (rw (← append-assoc (zeros (offset - filled)) bytes rest) (sets-append out to (zeros (offset - filled) ++ bytes) rest ∙ rw (← g, k)))))
+    stop-here : dataStop filled (entryAt list row i at) ≡ offset + e .size
+    stop-here = rw (start-here, bytes-here, bytes-long)
 
-  store-length : length (storeFrom filled (entriesFrom list row (n - i) i at))
-      ≡ (offset - filled) + length bytes
-      + length (storeFrom (offset + length bytes) (entriesFrom list row (n - (i + 1)) (i + 1) (at + e .size)))
-  store-length =
-      let rest = storeFrom (offset + length bytes) (entriesFrom list row (n - (i + 1)) (i + 1) (at + e .size)) in
-      let c = length-replicate {A = ℕ} (offset - filled) 0 in
-      let d = length-append (zeros (offset - filled)) (bytes ++ rest) in
-      let f = length-append bytes rest in
-      rw (entries-step list row n i at l) (rw (store-step filled (entryAt list row i at) _)
-      (rw (stop-here, start-here, bytes-here, next) (omega arith)))
+    pub index-turn : (out : List ℕ) (place : ℕ) {v after : List ℕ}
+        → v ≡ sets out (place + 16 * i) (indexFrom filled (entriesFrom list row (n - i) i at))
+        → after ≡ sets out (place + 16 * i) (fourBytes (e .tag) (e .ty) offset (e .count))
+        → v ≡ sets after (place + 16 * (i + 1))
+        (indexFrom (offset + e .size) (entriesFrom list row (n - (i + 1)) (i + 1) (at + e .size)))
+    index-turn out place inv g =
+        let four = fourBytes (e .tag) (e .ty) offset (e .count) in
+        let a = length-four (e .tag) (e .ty) offset (e .count) in
+        let k : place + 16 * (i + 1) ≡ place + 16 * i + length four = omega arith in
+        let here : recordBytes (recordOf (entryAt list row i at) offset) ≡ four = rw p in
+        inv
+        ∙ rw (entries-step list row n i at l) (rw (index-step filled (entryAt list row i at) _)
+        (rw (stop-here, start-here, next, here, k, g)
+        (sets-append out (place + 16 * i) four
+        (indexFrom (offset + e .size) (entriesFrom list row (n - (i + 1)) (i + 1) (at + e .size))))))
 
-  pub end-turn : {v : ℕ} → v ≡ filled + length (storeFrom filled (entriesFrom list row (n - i) i at)) → filled ≤ offset
-      → v ≡ offset + length bytes
-      + length (storeFrom (offset + length bytes) (entriesFrom list row (n - (i + 1)) (i + 1) (at + e .size)))
-  end-turn inv f = let k = store-length in omega arith
+    store-length : length (storeFrom filled (entriesFrom list row (n - i) i at))
+        ≡ (offset - filled) + e .size
+        + length (storeFrom (offset + e .size) (entriesFrom list row (n - (i + 1)) (i + 1) (at + e .size)))
+    store-length =
+        let bytes = take (e .size) (drop at row) in
+        let rest = storeFrom (offset + e .size) (entriesFrom list row (n - (i + 1)) (i + 1) (at + e .size)) in
+        let a = bytes-long in
+        let c = length-replicate {A = ℕ} (offset - filled) 0 in
+        let d = length-append (zeros (offset - filled)) (bytes ++ rest) in
+        let g = length-append bytes rest in
+        rw (entries-step list row n i at l) (rw (store-step filled (entryAt list row i at) _)
+        (rw (stop-here, start-here, bytes-here, next) (omega arith)))
 
-  module _ (to : ℕ) {room : ℕ} (r : to + length (storeFrom filled (entriesFrom list row (n - i) i at)) ≤ room) where
-    pub data-room : {end : ℕ} → end ≡ room → to + (offset - filled + length bytes) ≤ end
-    data-room h = let k = store-length in omega arith
+    pub end-turn : {v : ℕ} → v ≡ filled + length (storeFrom filled (entriesFrom list row (n - i) i at)) → filled ≤ offset
+        → v ≡ offset + e .size
+        + length (storeFrom (offset + e .size) (entriesFrom list row (n - (i + 1)) (i + 1) (at + e .size)))
+    end-turn inv g = let k = store-length in omega arith
 
-    pub store-room : to + (offset - filled + length bytes)
-        + length (storeFrom (offset + length bytes) (entriesFrom list row (n - (i + 1)) (i + 1) (at + e .size))) ≤ room
-    store-room = let k = store-length in omega arith
+    module _ {bytes : List ℕ} (b : bytes ≡ take (e .size) (drop at row)) where
+      size-here : length bytes ≡ e .size
+      size-here = ap length b ∙ bytes-long
+
+      pub store-turn : (out : List ℕ) (to : ℕ) {v after : List ℕ}
+          → v ≡ sets out to (storeFrom filled (entriesFrom list row (n - i) i at))
+          → after ≡ sets out to (zeros (offset - filled) ++ bytes)
+          → v ≡ sets after (to + (offset - filled + e .size))
+          (storeFrom (offset + e .size) (entriesFrom list row (n - (i + 1)) (i + 1) (at + e .size)))
+      store-turn out to inv g =
+          let rest = storeFrom (offset + e .size) (entriesFrom list row (n - (i + 1)) (i + 1) (at + e .size)) in
+          let a = size-here in
+          let c = length-replicate {A = ℕ} (offset - filled) 0 in
+          let d = length-append (zeros (offset - filled)) bytes in
+          let k : to + length (zeros (offset - filled) ++ bytes) ≡ to + (offset - filled + e .size) = omega arith in
+          inv
+          ∙ rw (entries-step list row n i at l) (rw (store-step filled (entryAt list row i at) _)
+          (rw (stop-here, start-here, bytes-here, ← b, next)
+          (rw (← append-assoc (zeros (offset - filled)) bytes rest) (sets-append out to (zeros (offset - filled) ++ bytes) rest ∙ rw (← g, k)))))
+
+      module _ (to : ℕ) {room : ℕ} (r : to + length (storeFrom filled (entriesFrom list row (n - i) i at)) ≤ room) where
+        pub data-room : {end : ℕ} → end ≡ room → to + (offset - filled + length bytes) ≤ end
+        data-room h = let a = size-here in let k = store-length in omega arith
+
+        pub store-room : to + (offset - filled + e .size)
+            + length (storeFrom (offset + e .size) (entriesFrom list row (n - (i + 1)) (i + 1) (at + e .size))) ≤ room
+        store-room = let k = store-length in omega arith
 
 module _ (list row : List ℕ) (n i at filled : ℕ) where
   pub index-spent : (out : List ℕ) (place : ℕ) {v : List ℕ}

@@ -18,7 +18,7 @@ use Rattle.writer.specs.declared.Sizes.{Sizes}
 use Rattle.writer.specs.declared.Plan.{Plan}
 use Rattle.writer.specs.declared.Plan.the-variants as plan
 use Rattle.writer.specs.Writing.{roomCheck, writtenOf, writeCheck, Wrote}
-use Rattle.writer.specs.Sizes.{sizesOf, planAs, planned}
+use Rattle.writer.specs.Sizes.{Listed, sizesOf, planAs, planned}
 use Rattle.writer.proofs.PackageLaws.{written-length, stores-fit}
 
 formed : (list row : List ℕ) → formReasons list row ≡ Pass → sizesFrom list (length list / 16) 0 ≡ length row
@@ -104,14 +104,19 @@ module _ (name sig sigs head heads : List ℕ) {v : Verdict} (p : v ≡ reasons 
         length-is : sizes .length ≡ sizesOf sig sigs head heads .length
         length-is = ap (λ (s : Sizes). s .length) (sym (told .1))
 
-        pub put-ready : (length sig / 16 ≤ 512) × (length sigs ≤ 65536) × (length head / 16 ≤ 512) × (length heads ≤ 65536)
-            × (sizes ≡ sizesOf sig sigs head heads) × (sizes .length ≤ length before) × (sizes .length ≤ 65536)
+        pub put-ready : Listed sig sigs × Listed head heads × (sizes ≡ sizesOf sig sigs head heads)
+            × (sizes .length ≤ length before) × (sizes .length ≤ 65536)
         put-ready =
             let l = lent h in
             let a = stores-fit sig sigs head heads (l .signed) (l .headed) in
             let b = bounds in
-            let c = length-is in
-            (l .fewSigned, omega arith, l .fewHeaded, omega arith, sym (told .1), omega arith, omega arith)
+            let c = length-is in (
+              (l .fewSigned, omega arith, l .signed),
+              (l .fewHeaded, omega arith, l .headed),
+              sym (told .1),
+              omega arith,
+              omega arith,
+            )
 
         pub wrote : {after : List ℕ} → after ≡ sets before 0 (writtenOf name sig sigs head heads)
             → Wrote name sig sigs head heads before (answer.Done (sizes .length)) after

@@ -1,18 +1,24 @@
 -- The sizes of a package that is to be written: what the plan of a writing finds.
-use Prim.Native.Nat.{ℕ, _+_, _*_, _/_}
+use Prim.Native.Nat.{ℕ, _+_, _*_, _/_, _≤_}
+use mathlib.Core.Path.{_≡_}
 use mathlib.Core.List.{List}
 use lib.ListN.{length}
-use Rattle.format.specs.Sizes.{leadSize, headerRecordSize, indexRecordSize}
+use Rattle.format.specs.Sizes.{packageLimit, nindexLimit, leadSize, headerRecordSize, indexRecordSize}
 use Rattle.format.specs.Places.{alignUp}
 use Rattle.format.specs.declared.verdict.Verdict.{Verdict}
 use Rattle.format.specs.declared.verdict.Verdict.the-variants.{Pass, Fail}
-use Rattle.lists.specs.Lists.{entriesOf}
+use Rattle.lists.specs.Lists.{entriesOf, sizesFrom}
 use Rattle.layout.specs.Layout.{storeFrom}
 use Rattle.writer.specs.declared.Sizes.{Sizes}
 use Rattle.writer.specs.declared.Plan.{Plan}
 use Rattle.writer.specs.declared.Plan.the-variants.{Fits}
 use Rattle.writer.specs.declared.Plan.the-variants as plan
 use Rattle.writer.specs.Writing.{roomCheck}
+
+-- what 32 and the limit leave of a list as it is lent
+abbrev pub Listed : List ℕ → List ℕ → Type 0
+Listed list row =
+    (length list / 16 ≤ nindexLimit) × (length row ≤ packageLimit) × (sizesFrom list (length list / 16) 0 ≡ length row)
 
 -- a structure with so many index records and a store of so many bytes
 abbrev pub structureSize : ℕ → ℕ → ℕ

@@ -5,7 +5,7 @@ ghost use lib.ListN.{length};
 ghost use lib.Seq.{sets};
 ghost use Rattle.format.specs.Sizes.{packageLimit};
 ghost use Rattle.lists.specs.Lists.{entriesOf, sizesFrom};
-ghost use Rattle.writer.specs.Sizes.{sizesWith, sizesOf, planned};
+ghost use Rattle.writer.specs.Sizes.{Listed, sizesWith, sizesOf, planned};
 ghost use Rattle.writer.specs.Writing.{writtenOf, Wrote};
 
 pub mod structures;
@@ -34,7 +34,7 @@ pub enum Plan {
 
 // The sizes of a package with stores of the given sizes.
 fn sizes_with(signature: &[u8], header: &[u8], first: usize, second: usize) -> Sizes
-    requires { ⌜ (length (now signature) / 16 ≤ 512) × (length (now header) / 16 ≤ 512) × (first ≤ 33556484) × (second ≤ 33556484) ⌝ }
+    requires { ⌜ (length (now signature) / 16 ≤ 512) × (length (now header) / 16 ≤ 512) × (first ≤ 2 * packageLimit) × (second ≤ 2 * packageLimit) ⌝ }
     ensures { λ r. ⌜ r ≡ sizesWith (now (signature .entry)) (now (header .entry)) first second ⌝ }
 {
     let n = signature.len() / ListRecord::SIZE + 1;
@@ -91,8 +91,8 @@ fn put_package(
     header_data: &[u8],
     sizes: Sizes,
 )
-    requires { ⌜ (length (now signature) / 16 ≤ 512) × (length (now «signature_data») ≤ packageLimit) × (length (now header) / 16 ≤ 512)
-        × (length (now «header_data») ≤ packageLimit) × (sizes ≡ sizesOf (now signature) (now «signature_data») (now header) (now «header_data»))
+    requires { ⌜ Listed (now signature) (now «signature_data») × Listed (now header) (now «header_data»)
+        × (sizes ≡ sizesOf (now signature) (now «signature_data») (now header) (now «header_data»))
         × (sizes .length ≤ length (now out)) × (sizes .length ≤ packageLimit) ⌝ }
     ensures { λ r. ⌜ now (out .exit) ≡ sets (now (out .entry)) 0 (writtenOf (now (name .entry)) (now (signature .entry)) (now («signature_data» .entry)) (now (header .entry)) (now («header_data» .entry))) ⌝ }
 {

@@ -9,6 +9,7 @@ ghost use Rattle.put.specs.Puts.{fourBytes, zeros};
 ghost use Rattle.lists.specs.Lists.{entriesOf};
 ghost use Rattle.reasons.specs.Reasons.{sizeEntry};
 ghost use Rattle.layout.specs.Layout.{offsetFor, indexFrom, storeFrom, structureBytes};
+ghost use Rattle.writer.specs.Sizes.{Listed, structureSize, signatureStore, headerStore};
 use format::HeaderRecord;
 use format::IndexRecord;
 use lists::ListRecord;
@@ -27,8 +28,8 @@ fn offset_for(ty: u32, filled: usize) -> usize
 
 // Up to where the store of a list is filled, from a place on.
 pub(crate) fn store_end(list: &[u8], row: &[u8], start: usize) -> usize
-    requires { ⌜ (length (now list) / 16 ≤ 512) × (length (now row) ≤ packageLimit) × (start ≤ 4) ⌝ }
-    ensures { λ r. ⌜ (r ≡ start + length (storeFrom start (entriesOf (now (list .entry)) (now (row .entry))))) × (r ≤ 33556484) ⌝ }
+    requires { ⌜ Listed (now list) (now row) × (start ≤ 4) ⌝ }
+    ensures { λ r. ⌜ (r ≡ start + length (storeFrom start (entriesOf (now (list .entry)) (now (row .entry))))) × (r ≤ 2 * packageLimit) ⌝ }
 {
     let n = (list.len() / ListRecord::SIZE) as u32;
     let mut at = 0;
@@ -36,9 +37,8 @@ pub(crate) fn store_end(list: &[u8], row: &[u8], start: usize) -> usize
     let mut i = 0;
     while i < n {
         let e = lists::entry(list, i);
-        let bytes = lists::bytes(row, at, e.size);
         let offset = offset_for(e.ty, filled);
-        filled = offset + bytes.len();
+        filled = offset + e.size as usize;
         at += e.size as usize;
         i += 1;
     }
@@ -66,7 +66,7 @@ fn put_record(out: &mut [u8], at: usize, e: ListRecord, offset: usize)
 
 // Puts a list's index records at a place, the store being filled up to `start`.
 fn put_index(out: &mut [u8], place: usize, start: usize, list: &[u8], row: &[u8])
-    requires { ⌜ (length (now list) / 16 ≤ 512) × (length (now row) ≤ packageLimit) × (start ≤ 4) × (place + 16 * (length (now list) / 16) ≤ length (now out)) ⌝ }
+    requires { ⌜ Listed (now list) (now row) × (start ≤ 4) × (place + 16 * (length (now list) / 16) ≤ length (now out)) ⌝ }
     ensures { λ r. ⌜ now (out .exit) ≡ sets (now (out .entry)) place (indexFrom start (entriesOf (now (list .entry)) (now (row .entry)))) ⌝ }
 {
     let n = (list.len() / ListRecord::SIZE) as u32;
@@ -75,10 +75,9 @@ fn put_index(out: &mut [u8], place: usize, start: usize, list: &[u8], row: &[u8]
     let mut i = 0;
     while i < n {
         let e = lists::entry(list, i);
-        let bytes = lists::bytes(row, at, e.size);
         let offset = offset_for(e.ty, filled);
         put_record(out, place + IndexRecord::SIZE * i as usize, e, offset);
-        filled = offset + bytes.len();
+        filled = offset + e.size as usize;
         at += e.size as usize;
         i += 1;
     }
@@ -89,13 +88,17 @@ fn put_data(out: &mut [u8], at: usize, gap: usize, bytes: &[u8])
     requires { ⌜ at + (gap + length (now bytes)) ≤ length (now out) ⌝ }
     ensures { λ r. ⌜ now (out .exit) ≡ sets (now (out .entry)) at (zeros gap ++ now (bytes .entry)) ⌝ }
 {
+    if gap == 0 {
+        put::bytes(out, at, bytes);
+        return;
+    }
     put::zeros(out, at, gap);
     put::bytes(out, at + gap, bytes);
 }
 
 // Puts a list's data at a place, with zero bytes for alignment, the store being filled up to `start`.
 fn put_store(out: &mut [u8], place: usize, start: usize, list: &[u8], row: &[u8])
-    requires { ⌜ (length (now list) / 16 ≤ 512) × (length (now row) ≤ packageLimit) × (start ≤ 4) × (place + length (storeFrom start (entriesOf (now list) (now row))) ≤ length (now out)) ⌝ }
+    requires { ⌜ Listed (now list) (now row) × (start ≤ 4) × (place + length (storeFrom start (entriesOf (now list) (now row))) ≤ length (now out)) ⌝ }
     ensures { λ r. ⌜ now (out .exit) ≡ sets (now (out .entry)) place (storeFrom start (entriesOf (now (list .entry)) (now (row .entry)))) ⌝ }
 {
     let n = (list.len() / ListRecord::SIZE) as u32;
@@ -109,8 +112,8 @@ fn put_store(out: &mut [u8], place: usize, start: usize, list: &[u8], row: &[u8]
         let offset = offset_for(e.ty, filled);
         let gap = offset - filled;
         put_data(out, to, gap, bytes);
-        to += gap + bytes.len();
-        filled = offset + bytes.len();
+        to += gap + e.size as usize;
+        filled = offset + e.size as usize;
         at += e.size as usize;
         i += 1;
     }
@@ -118,7 +121,8 @@ fn put_store(out: &mut [u8], place: usize, start: usize, list: &[u8], row: &[u8]
 
 // Puts a structure at a place, its store being of the given size.
 pub(crate) fn put_structure(out: &mut [u8], place: usize, list: &[u8], row: &[u8], size: usize)
-    requires { ⌜ (length (now list) / 16 ≤ 512) × (length (now row) ≤ packageLimit) × (size ≡ length (storeFrom 0 (entriesOf (now list) (now row)))) × (place + (16 + 16 * (length (now list) / 16) + size) ≤ length (now out)) × (size ≤ packageLimit) ⌝ }
+    requires { ⌜ Listed (now list) (now row) × (size ≡ headerStore (now list) (now row))
+        × (place + structureSize (length (now list) / 16) size ≤ length (now out)) × (size ≤ packageLimit) ⌝ }
     ensures { λ r. ⌜ now (out .exit) ≡ sets (now (out .entry)) place (structureBytes (entriesOf (now (list .entry)) (now (row .entry)))) ⌝ }
 {
     let n = list.len() / ListRecord::SIZE;
@@ -137,7 +141,8 @@ pub(crate) fn put_signature(
     size: usize,
     number: u32,
 )
-    requires { ⌜ (length (now list) / 16 ≤ 512) × (length (now row) ≤ packageLimit) × (size ≡ 4 + length (storeFrom 4 (entriesOf (now list) (now row)))) × (place + (32 + 16 * (length (now list) / 16) + size) ≤ length (now out)) × (size ≤ packageLimit) ⌝ }
+    requires { ⌜ Listed (now list) (now row) × (size ≡ signatureStore (now list) (now row))
+        × (place + structureSize (length (now list) / 16 + 1) size ≤ length (now out)) × (size ≤ packageLimit) ⌝ }
     ensures { λ r. ⌜ now (out .exit) ≡ sets (now (out .entry)) place (structureBytes (sizeEntry number ∷ entriesOf (now (list .entry)) (now (row .entry)))) ⌝ }
 {
     let n = list.len() / ListRecord::SIZE;

@@ -34,8 +34,7 @@ put-lead-requires c κs = search needs
 put-signature-requires : tie.Need-put-signature-requires
 put-signature-requires c κs =
     let start = c .before .before .before .before .before .before .before .before .before .before .before .before .before .before in
-    laws.signature-ready _ _ _ _ (start .pre .4) (start .pre .0) (start .pre .1) (start .pre .2) (start .pre .3) (start .pre .5)
-    (start .pre .6) (search needs)
+    laws.signature-ready _ _ _ _ (start .pre .2) (start .pre .3) (start .pre .4) (search needs) (start .pre .0)
 
 sub-zeros : tie.Need-sub-zeros
 sub-zeros c = search laws.gap-fits
@@ -49,8 +48,7 @@ cast-put-structure c = search needs
 put-structure-requires : tie.Need-put-structure-requires
 put-structure-requires c κs =
     let start = c .before .before .before .before .before .before .before .before .before .before .before .before .before .before .before .before .before .before .before .before .before .before .before in
-    laws.header-ready _ _ _ _ (start .pre .4) (start .pre .0) (start .pre .1) (start .pre .2) (start .pre .3) (start .pre .5)
-    (start .pre .6) (search needs)
+    laws.header-ready _ _ _ _ (start .pre .2) (start .pre .3) (start .pre .4) (search needs) (start .pre .1)
 
 same-length : tie.Need-same-length
 same-length c = search needs
@@ -62,7 +60,7 @@ returns c =
     let o2 = o3 .before .before .before .before in
     let o1 = o2 .before .before .before .before in
     let start = c .before .before .before .before .before .before .before .before .before .before .before .before .before .before .before .before .before .before .before .before .before .before .before .before .before .before in
-    laws.package-put _ _ _ _ (start .pre .4) (start .args .out .now) (start .args .name .now)
+    laws.package-put _ _ _ _ (start .pre .2) (start .args .out .now) (start .args .name .now)
     (o1 .put-lead .ensures) (o2 .put-signature .ensures) (o3 .zeros .ensures) (o4 .put-structure .ensures)
 
 pub put-package-spec : {M : Type 1} → statement M

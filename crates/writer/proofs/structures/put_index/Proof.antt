@@ -4,7 +4,7 @@ use mathlib.Core.Path.{_≡_}
 use lib.ListN.{length}
 use lib.Seq.{sets}
 use native.Mathlib.Nat.{add-zero, sub-zero, mul-zero}
-use Rattle.lists.specs.Lists.{entriesFrom}
+use Rattle.lists.specs.Lists.{entriesFrom, sizesFrom}
 use Rattle.layout.specs.Layout.{indexFrom}
 use Rattle.writer.proofs.TurnLaws as laws
 use borrow.Author.Needs.{needs}
@@ -12,7 +12,7 @@ use Rattle.writer.proofs.structures.put_index.Statement.{statement}
 use Rattle.writer.proofs.structures.put_index.Tie as tie
 
 abbrev Inv-loop : tie.InvT-loop
-Inv-loop out₀ place start list row n at₀ filled₀ i₀ out at filled i = (i ≤ n) × (16 * n ≤ length list) × (at ≤ 4294967295 * i) × (filled ≤ 4 + 65540 * i) × (sets out₀ place (indexFrom start (entriesFrom list row n 0 0)) ≡ sets out (place + 16 * i) (indexFrom filled (entriesFrom list row (n - i) i at))) × (length out ≡ length out₀)
+Inv-loop out₀ place start list row n at₀ filled₀ i₀ out at filled i = (i ≤ n) × (16 * n ≤ length list) × (at + sizesFrom list (n - i) i ≡ length row) × (filled ≤ 4 + at + 3 * i) × (sets out₀ place (indexFrom start (entriesFrom list row n 0 0)) ≡ sets out (place + 16 * i) (indexFrom filled (entriesFrom list row (n - i) i at))) × (length out ≡ length out₀)
 
 abbrev μ-loop : tie.MeasureT-loop
 μ-loop out₀ place start list row n at₀ filled₀ i₀ out at filled i = n - i
@@ -21,13 +21,10 @@ cast-n : tie.Need-cast-n Inv-loop μ-loop
 cast-n c = search needs
 
 loop-holds : tie.Need-loop-holds Inv-loop μ-loop
-loop-holds c = (search needs, search needs, search needs, search needs, simp (sub-zero, add-zero, mul-zero), search needs)
+loop-holds c = (search needs, search needs, simp sub-zero (search needs), search needs, simp (sub-zero, add-zero, mul-zero), search needs)
 
 entry-requires : tie.Need-entry-requires Inv-loop μ-loop
 entry-requires c κs = search needs
-
-bytes-requires : tie.Need-bytes-requires Inv-loop μ-loop
-bytes-requires c κs = search needs
 
 offset-for-requires : tie.Need-offset-for-requires Inv-loop μ-loop
 offset-for-requires c κs = search needs
@@ -43,6 +40,9 @@ add-put-record c = search needs
 
 put-record-requires : tie.Need-put-record-requires Inv-loop μ-loop
 put-record-requires c κs = search needs
+
+cast-filled : tie.Need-cast-filled Inv-loop μ-loop
+cast-filled c = search needs
 
 add-filled : tie.Need-add-filled Inv-loop μ-loop
 add-filled c = search needs
@@ -60,7 +60,7 @@ loop-less : tie.Need-loop-less Inv-loop μ-loop
 loop-less c = search needs
 
 loop-again : tie.Need-loop-again Inv-loop μ-loop
-loop-again c = (search needs, search needs, search needs, search needs, search laws.index-turn, search needs)
+loop-again c = (search needs, search needs, search laws.row-turn, search needs, search laws.index-turn, search needs)
 
 same-length : tie.Need-same-length Inv-loop μ-loop
 same-length c = search needs
@@ -77,12 +77,12 @@ put-index-spec =
     cast-n
     loop-holds
     entry-requires
-    bytes-requires
     offset-for-requires
     cast-put-record
     mul-put-record
     add-put-record
     put-record-requires
+    cast-filled
     add-filled
     cast-at
     add-at

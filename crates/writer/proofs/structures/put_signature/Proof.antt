@@ -65,7 +65,7 @@ returns c =
     _
     (start .args .size)
     (start .args .number)
-    (start .pre .2)
+    (start .pre .1)
     (o1 .put-numbers .ensures)
     (o2 .put-numbers2 .ensures)
     (o3 .put-index .ensures)

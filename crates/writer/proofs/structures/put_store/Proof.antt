@@ -4,7 +4,7 @@ use mathlib.Core.Path.{_≡_}
 use lib.ListN.{length}
 use lib.Seq.{sets}
 use native.Mathlib.Nat.{sub-zero}
-use Rattle.lists.specs.Lists.{entriesFrom}
+use Rattle.lists.specs.Lists.{entriesFrom, sizesFrom}
 use Rattle.layout.specs.Layout.{storeFrom}
 use Rattle.writer.proofs.TurnLaws as laws
 use borrow.Author.Needs.{needs}
@@ -12,7 +12,7 @@ use Rattle.writer.proofs.structures.put_store.Statement.{statement}
 use Rattle.writer.proofs.structures.put_store.Tie as tie
 
 abbrev Inv-loop : tie.InvT-loop
-Inv-loop out₀ place start list row n to₀ at₀ filled₀ i₀ out to at filled i = (i ≤ n) × (16 * n ≤ length list) × (at ≤ 4294967295 * i) × (filled ≤ 4 + 65540 * i) × (to + length (storeFrom filled (entriesFrom list row (n - i) i at)) ≤ length out₀) × (sets out₀ place (storeFrom start (entriesFrom list row n 0 0)) ≡ sets out to (storeFrom filled (entriesFrom list row (n - i) i at))) × (length out ≡ length out₀)
+Inv-loop out₀ place start list row n to₀ at₀ filled₀ i₀ out to at filled i = (i ≤ n) × (16 * n ≤ length list) × (at + sizesFrom list (n - i) i ≡ length row) × (filled ≤ 4 + at + 3 * i) × (to + length (storeFrom filled (entriesFrom list row (n - i) i at)) ≤ length out₀) × (sets out₀ place (storeFrom start (entriesFrom list row n 0 0)) ≡ sets out to (storeFrom filled (entriesFrom list row (n - i) i at))) × (length out ≡ length out₀)
 
 abbrev μ-loop : tie.MeasureT-loop
 μ-loop out₀ place start list row n to₀ at₀ filled₀ i₀ out to at filled i = n - i
@@ -21,7 +21,7 @@ cast-n : tie.Need-cast-n Inv-loop μ-loop
 cast-n c = search needs
 
 loop-holds : tie.Need-loop-holds Inv-loop μ-loop
-loop-holds c = (search needs, search needs, search needs, search needs, simp sub-zero (search needs), simp sub-zero, search needs)
+loop-holds c = (search needs, search needs, simp sub-zero (search needs), search needs, simp sub-zero (search needs), simp sub-zero, search needs)
 
 entry-requires : tie.Need-entry-requires Inv-loop μ-loop
 entry-requires c κs = search needs
@@ -38,11 +38,17 @@ sub-gap c = search needs
 put-data-requires : tie.Need-put-data-requires Inv-loop μ-loop
 put-data-requires c κs = search laws.data-room
 
+cast-to : tie.Need-cast-to Inv-loop μ-loop
+cast-to c = search needs
+
 add-to : tie.Need-add-to Inv-loop μ-loop
 add-to c = search needs
 
 add-to-2 : tie.Need-add-to-2 Inv-loop μ-loop
 add-to-2 c = search needs
+
+cast-filled : tie.Need-cast-filled Inv-loop μ-loop
+cast-filled c = search needs
 
 add-filled : tie.Need-add-filled Inv-loop μ-loop
 add-filled c = search needs
@@ -60,7 +66,7 @@ loop-less : tie.Need-loop-less Inv-loop μ-loop
 loop-less c = search needs
 
 loop-again : tie.Need-loop-again Inv-loop μ-loop
-loop-again c = (search needs, search needs, search needs, search needs, search laws.store-room, search laws.store-turn, search needs)
+loop-again c = (search needs, search needs, search laws.row-turn, search needs, search laws.store-room, search laws.store-turn, search needs)
 
 same-length : tie.Need-same-length Inv-loop μ-loop
 same-length c = search needs
@@ -81,8 +87,10 @@ put-store-spec =
     offset-for-requires
     sub-gap
     put-data-requires
+    cast-to
     add-to
     add-to-2
+    cast-filled
     add-filled
     cast-at
     add-at

@@ -44,7 +44,7 @@ returns c =
     (start .args .row .now)
     _
     (start .args .size)
-    (start .pre .2)
+    (start .pre .1)
     (o1 .put-numbers .ensures)
     (o2 .put-index .ensures)
     (o3 .put-store .ensures)

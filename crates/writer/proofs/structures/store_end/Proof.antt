@@ -3,7 +3,7 @@ use Prim.Native.Nat.{_≤_, _+_, _-_, _*_}
 use mathlib.Core.Path.{_≡_}
 use lib.ListN.{length}
 use native.Mathlib.Nat.{sub-zero}
-use Rattle.lists.specs.Lists.{entriesFrom}
+use Rattle.lists.specs.Lists.{entriesFrom, sizesFrom}
 use Rattle.layout.specs.Layout.{storeFrom}
 use Rattle.writer.proofs.TurnLaws as laws
 use borrow.Author.Needs.{needs}
@@ -11,7 +11,7 @@ use Rattle.writer.proofs.structures.store_end.Statement.{statement}
 use Rattle.writer.proofs.structures.store_end.Tie as tie
 
 abbrev Inv-loop : tie.InvT-loop
-Inv-loop list row start n at₀ filled₀ i₀ at filled i = (i ≤ n) × (16 * n ≤ length list) × (at ≤ 4294967295 * i) × (filled ≤ 4 + 65540 * i) × (start + length (storeFrom start (entriesFrom list row n 0 0)) ≡ filled + length (storeFrom filled (entriesFrom list row (n - i) i at)))
+Inv-loop list row start n at₀ filled₀ i₀ at filled i = (i ≤ n) × (16 * n ≤ length list) × (at + sizesFrom list (n - i) i ≡ length row) × (filled ≤ 4 + at + 3 * i) × (start + length (storeFrom start (entriesFrom list row n 0 0)) ≡ filled + length (storeFrom filled (entriesFrom list row (n - i) i at)))
 
 abbrev μ-loop : tie.MeasureT-loop
 μ-loop list row start n at₀ filled₀ i₀ at filled i = n - i
@@ -20,16 +20,16 @@ cast-n : tie.Need-cast-n Inv-loop μ-loop
 cast-n c = search needs
 
 loop-holds : tie.Need-loop-holds Inv-loop μ-loop
-loop-holds c = (search needs, search needs, search needs, search needs, simp sub-zero)
+loop-holds c = (search needs, search needs, simp sub-zero (search needs), search needs, simp sub-zero)
 
 entry-requires : tie.Need-entry-requires Inv-loop μ-loop
 entry-requires c κs = search needs
 
-bytes-requires : tie.Need-bytes-requires Inv-loop μ-loop
-bytes-requires c κs = search needs
-
 offset-for-requires : tie.Need-offset-for-requires Inv-loop μ-loop
 offset-for-requires c κs = search needs
+
+cast-filled : tie.Need-cast-filled Inv-loop μ-loop
+cast-filled c = search needs
 
 add-filled : tie.Need-add-filled Inv-loop μ-loop
 add-filled c = search needs
@@ -47,7 +47,7 @@ loop-less : tie.Need-loop-less Inv-loop μ-loop
 loop-less c = search needs
 
 loop-again : tie.Need-loop-again Inv-loop μ-loop
-loop-again c = (search needs, search needs, search needs, search needs, search laws.end-turn)
+loop-again c = (search needs, search needs, search laws.row-turn, search needs, search laws.end-turn)
 
 returns : tie.Need-returns Inv-loop μ-loop
 returns c = (search laws.end-spent, search needs)
@@ -61,8 +61,8 @@ store-end-spec =
     cast-n
     loop-holds
     entry-requires
-    bytes-requires
     offset-for-requires
+    cast-filled
     add-filled
     cast-at
     add-at
