@@ -1,4 +1,4 @@
--- A structure from its parts (structure-put), the signature with 1000 first (signature-put), zero bytes and data (data-alone, data-put) and
+-- A structure from its parts (structure-put), the signature with 1000 first (signature-put), data and zero bytes (run-put) and
 -- four numbers (four-numbers); how long they are (index-length, structure-length, signature-length).
 use Prim.Native.Nat.{ℕ, suc, _+_, _-_, _*_, _≤_}
 use mathlib.Core.Path.{_≡_, refl, sym, ap, _∙_}
@@ -24,15 +24,9 @@ four-numbers out at a b c d p q r s =
     s
     refl
 
-pub data-alone : (out : List ℕ) (at : ℕ) {gap : ℕ} (bytes : List ℕ) {o : List ℕ} → gap ≡ 0 → o ≡ sets out at bytes
-    → o ≡ sets out at (zeros gap ++ bytes)
-data-alone out at bytes z p = p ∙ rw z
-
-pub data-put : (out : List ℕ) (at gap : ℕ) (bytes : List ℕ) {o₁ o₂ : List ℕ} → o₁ ≡ sets out at (zeros gap)
-    → o₂ ≡ sets o₁ (at + gap) bytes → o₂ ≡ sets out at (zeros gap ++ bytes)
-data-put out at gap bytes p q =
-    let c = length-replicate {A = ℕ} gap 0 in
-    behind out at (zeros gap) bytes p q (omega arith)
+pub run-put : (out : List ℕ) (at gap : ℕ) (run : List ℕ) {o₁ o₂ : List ℕ} → o₁ ≡ sets out at run
+    → o₂ ≡ sets o₁ (at + length run) (zeros gap) → o₂ ≡ sets out at (run ++ zeros gap)
+run-put out at gap run p q = behind out at run (zeros gap) p q refl
 
 pub index-length : (filled : ℕ) (entries : List ListEntry) → length (indexFrom filled entries) ≡ 16 * length entries
 unfolding indexFrom fourBytes bytesOf

@@ -1,11 +1,13 @@
 -- A walk over a lent list, turn by turn: the store's end (end-turn, end-spent), the index (index-turn, index-spent), the store
--- (store-turn, store-spent, and the room that is left: data-room, store-room), and the row that is left (row-turn).
+-- by runs of data (run-turn, gap-turn, store-spent, and the room that is left: gap-room, run-next, gap-next), and the row that
+-- is left (row-turn).
 use Prim.Native.Nat.{ℕ, _+_, _-_, _*_, _≤_, _<_}
 use mathlib.Core.Path.{_≡_, refl, sym, ap, _∙_}
-use mathlib.Core.List.{List, [], _∷_, _++_, append-assoc}
+use mathlib.Core.List.{List, [], _∷_, _++_, append-assoc, append-nil}
 use lib.ListN.{length, take, drop, length-append, length-replicate, length-take, length-drop}
 use lib.Seq.{sets}
 use native.Mathlib.Omega.{arith}
+use Rattle.be.proofs.ByteLaws.{part-join, length-part}
 use Rattle.put.specs.Puts.{zeros, fourBytes}
 use Rattle.put.proofs.PutLaws.{sets-append, length-four}
 use Rattle.lists.specs.declared.ListRecord.{ListRecord}
@@ -101,42 +103,76 @@ module _ (list row : List ℕ) (n i at filled : ℕ) (w : 16 * n ≤ length list
         + length (storeFrom (offset + e .size) (entriesFrom list row (n - (i + 1)) (i + 1) (at + e .size)))
     end-turn inv g = let k = store-length in omega arith
 
-    module _ {bytes : List ℕ} (b : bytes ≡ take (e .size) (drop at row)) where
-      size-here : length bytes ≡ e .size
-      size-here = ap length b ∙ bytes-long
+    store-here : storeFrom filled (entriesFrom list row (n - i) i at)
+        ≡ zeros (offset - filled) ++ (take (e .size) (drop at row)
+        ++ storeFrom (offset + e .size) (entriesFrom list row (n - (i + 1)) (i + 1) (at + e .size)))
+    store-here =
+        rw (entries-step list row n i at l) (store-step filled (entryAt list row i at) _
+        ∙ rw (stop-here, start-here, bytes-here, next))
 
-      pub store-turn : (out : List ℕ) (to : ℕ) {v after : List ℕ}
-          → v ≡ sets out to (storeFrom filled (entriesFrom list row (n - i) i at))
-          → after ≡ sets out to (zeros (offset - filled) ++ bytes)
-          → v ≡ sets after (to + (offset - filled + e .size))
-          (storeFrom (offset + e .size) (entriesFrom list row (n - (i + 1)) (i + 1) (at + e .size)))
-      store-turn out to inv g =
-          let rest = storeFrom (offset + e .size) (entriesFrom list row (n - (i + 1)) (i + 1) (at + e .size)) in
-          let a = size-here in
-          let c = length-replicate {A = ℕ} (offset - filled) 0 in
-          let d = length-append (zeros (offset - filled)) bytes in
-          let k : to + length (zeros (offset - filled) ++ bytes) ≡ to + (offset - filled + e .size) = omega arith in
-          inv
-          ∙ rw (entries-step list row n i at l) (rw (store-step filled (entryAt list row i at) _)
-          (rw (stop-here, start-here, bytes-here, ← b, next)
-          (rw (← append-assoc (zeros (offset - filled)) bytes rest) (sets-append out to (zeros (offset - filled) ++ bytes) rest ∙ rw (← g, k)))))
+    -- a run of data that is put later, from a place of the row on, and the rest of the store
+    module _ (from : ℕ) (d : from ≤ at) where
+      joined : take (at - from) (drop from row) ++ take (e .size) (drop at row) ≡ take (at + e .size - from) (drop from row)
+      joined =
+          let m : from + (at - from) ≡ at = omega arith in
+          let k : at - from + e .size ≡ at + e .size - from = omega arith in
+          rw (m, k) at (part-join row from (at - from) (e .size))
 
-      module _ (to : ℕ) {room : ℕ} (r : to + length (storeFrom filled (entriesFrom list row (n - i) i at)) ≤ room) where
-        pub data-room : {end : ℕ} → end ≡ room → to + (offset - filled + length bytes) ≤ end
-        data-room h = let a = size-here in let k = store-length in omega arith
+      run-long : length (take (at - from) (drop from row)) ≡ at - from
+      run-long = length-part row from (at - from) (omega arith)
 
-        pub store-room : to + (offset - filled + e .size)
+      module _ (out : List ℕ) (to : ℕ) {v : List ℕ}
+          (inv : v ≡ sets out to (take (at - from) (drop from row) ++ storeFrom filled (entriesFrom list row (n - i) i at))) where
+        pub run-turn : offset - filled ≡ 0
+            → v ≡ sets out to (take (at + e .size - from) (drop from row)
+            ++ storeFrom (offset + e .size) (entriesFrom list row (n - (i + 1)) (i + 1) (at + e .size)))
+        run-turn z =
+            inv ∙ rw (store-here, z)
+            (rw (← joined) (rw (append-assoc (take (at - from) (drop from row)) (take (e .size) (drop at row))
+            (storeFrom (offset + e .size) (entriesFrom list row (n - (i + 1)) (i + 1) (at + e .size))))))
+
+        pub gap-turn : {run after : List ℕ} → run ≡ take (at - from) (drop from row)
+            → after ≡ sets out to (run ++ zeros (offset - filled))
+            → v ≡ sets after (to + (at - from + (offset - filled))) (take (at + e .size - at) (drop at row)
+            ++ storeFrom (offset + e .size) (entriesFrom list row (n - (i + 1)) (i + 1) (at + e .size)))
+        gap-turn {run} r g =
+            let left = take (e .size) (drop at row)
+            ++ storeFrom (offset + e .size) (entriesFrom list row (n - (i + 1)) (i + 1) (at + e .size)) in
+            let a = ap length r ∙ run-long in
+            let b = length-append run (zeros (offset - filled)) in
+            let c = length-replicate {A = ℕ} (offset - filled) 0 in
+            let k : to + length (run ++ zeros (offset - filled)) ≡ to + (at - from + (offset - filled)) = omega arith in
+            let m : at + e .size - at ≡ e .size = omega arith in
+            rw m
+            (inv ∙ rw (store-here, ← r)
+            (rw (← append-assoc run (zeros (offset - filled)) left)
+            (sets-append out to (run ++ zeros (offset - filled)) left ∙ rw (← g, k))))
+
+      module _ (to : ℕ) {room : ℕ} (h : filled ≤ offset)
+          (r : to + (at - from) + length (storeFrom filled (entriesFrom list row (n - i) i at)) ≤ room) where
+        pub gap-room : {run : List ℕ} {end : ℕ} → run ≡ take (at - from) (drop from row) → end ≡ room
+            → to + (length run + (offset - filled)) ≤ end
+        gap-room g k = let a = ap length g ∙ run-long in let b = store-length in omega arith
+
+        pub run-next : offset - filled ≡ 0
+            → to + (at + e .size - from)
             + length (storeFrom (offset + e .size) (entriesFrom list row (n - (i + 1)) (i + 1) (at + e .size))) ≤ room
-        store-room = let k = store-length in omega arith
+        run-next z = let b = store-length in omega arith
+
+        pub gap-next : to + (at - from + (offset - filled)) + (at + e .size - at)
+            + length (storeFrom (offset + e .size) (entriesFrom list row (n - (i + 1)) (i + 1) (at + e .size))) ≤ room
+        gap-next = let b = store-length in omega arith
 
 module _ (list row : List ℕ) (n i at filled : ℕ) where
   pub index-spent : (out : List ℕ) (place : ℕ) {v : List ℕ}
       → v ≡ sets out place (indexFrom filled (entriesFrom list row (n - i) i at)) → n ≤ i → out ≡ v
   index-spent out place inv l = sym (inv ∙ rw (entries-none list row n i at l, index-none filled))
 
-  pub store-spent : (out : List ℕ) (place : ℕ) {v : List ℕ}
-      → v ≡ sets out place (storeFrom filled (entriesFrom list row (n - i) i at)) → n ≤ i → out ≡ v
-  store-spent out place inv l = sym (inv ∙ rw (entries-none list row n i at l, store-none filled))
+  pub store-spent : (out : List ℕ) (to from : ℕ) {v run after : List ℕ}
+      → v ≡ sets out to (take (at - from) (drop from row) ++ storeFrom filled (entriesFrom list row (n - i) i at)) → n ≤ i
+      → run ≡ take (at - from) (drop from row) → after ≡ sets out to run → after ≡ v
+  store-spent out to from {run = run} inv l r g =
+      g ∙ sym (inv ∙ rw (entries-none list row n i at l, store-none filled, ← r) (rw (append-nil run)))
 
   pub end-spent : {v : ℕ} → v ≡ filled + length (storeFrom filled (entriesFrom list row (n - i) i at)) → n ≤ i → filled ≡ v
   end-spent inv l =

@@ -83,40 +83,45 @@ fn put_index(out: &mut [u8], place: usize, start: usize, list: &[u8], row: &[u8]
     }
 }
 
-// Puts zero bytes and then bytes at a place.
-fn put_data(out: &mut [u8], at: usize, gap: usize, bytes: &[u8])
-    requires { ⌜ at + (gap + length (now bytes)) ≤ length (now out) ⌝ }
-    ensures { λ r. ⌜ now (out .exit) ≡ sets (now (out .entry)) at (zeros gap ++ now (bytes .entry)) ⌝ }
+// Puts bytes and then zero bytes at a place.
+fn put_run(out: &mut [u8], at: usize, run: &[u8], gap: usize)
+    requires { ⌜ at + (length (now run) + gap) ≤ length (now out) ⌝ }
+    ensures { λ r. ⌜ now (out .exit) ≡ sets (now (out .entry)) at (now (run .entry) ++ zeros gap) ⌝ }
 {
-    if gap == 0 {
-        put::bytes(out, at, bytes);
-        return;
-    }
-    put::zeros(out, at, gap);
-    put::bytes(out, at + gap, bytes);
+    let len = run.len();
+    put::bytes(out, at, run);
+    put::zeros(out, at + len, gap);
 }
 
-// Puts a list's data at a place, with zero bytes for alignment, the store being filled up to `start`.
+// Puts a list's data at a place, with zero bytes for alignment, the store being filled up to `start`. Data with no zero bytes
+// between is put in one run, from `from` of the row on.
 fn put_store(out: &mut [u8], place: usize, start: usize, list: &[u8], row: &[u8])
     requires { ⌜ Listed (now list) (now row) × (start ≤ 4) × (place + length (storeFrom start (entriesOf (now list) (now row))) ≤ length (now out)) ⌝ }
     ensures { λ r. ⌜ now (out .exit) ≡ sets (now (out .entry)) place (storeFrom start (entriesOf (now (list .entry)) (now (row .entry)))) ⌝ }
 {
     let n = (list.len() / ListRecord::SIZE) as u32;
     let mut to = place;
+    let mut from = 0;
     let mut at = 0;
     let mut filled = start;
     let mut i = 0;
     while i < n {
         let e = lists::entry(list, i);
-        let bytes = lists::bytes(row, at, e.size);
         let offset = offset_for(e.ty, filled);
         let gap = offset - filled;
-        put_data(out, to, gap, bytes);
-        to += gap + e.size as usize;
+        let end = at;
+        at = end + e.size as usize;
         filled = offset + e.size as usize;
-        at += e.size as usize;
         i += 1;
+        if gap != 0 {
+            let extent = end - from;
+            let run = be::part(row, from, extent);
+            put_run(out, to, run, gap);
+            to += extent + gap;
+            from = end;
+        }
     }
+    put::bytes(out, to, be::part(row, from, at - from));
 }
 
 // Puts a structure at a place, its store being of the given size.
