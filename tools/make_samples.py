@@ -144,8 +144,21 @@ READINGS = {
     'check23_sum': accepted(DOSE, batch=1249),
 }
 
+# The smallest package that is written: name "a", one byte of bin under the tag 1.
+WRITTEN = {
+    'written_smallest': bytes.fromhex(
+        'EDABEEDB 0300 0000 0000 61' + '00' * 65 + '0001 0005' + '00' * 16
+        + '8EADE801 00000000 00000001 00000004'
+        + '000003E8 00000004 00000000 00000001'
+        + '00000021 00000000'
+        + '8EADE801 00000000 00000001 00000001'
+        + '00000001 00000007 00000000 00000001'
+        + '07'),
+}
+
 if __name__ == '__main__':
     OUT.mkdir(parents=True, exist_ok=True)
-    for name, bits in {**SAMPLES, **READINGS}.items():
+    every = {**SAMPLES, **READINGS, **WRITTEN}
+    for name, bits in every.items():
         (OUT / name).write_bytes(bits)
-    print(len(SAMPLES) + len(READINGS), 'samples in', OUT)
+    print(len(every), 'samples in', OUT)

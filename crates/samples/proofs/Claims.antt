@@ -1,4 +1,4 @@
--- The samples marked P, by computation.
+-- The samples marked P, and the smallest package that is written, by computation.
 use lib.Dec.{T}
 use Rattle.be.specs.Numbers.{be16At, be32At}
 use Rattle.be.specs.Bytes.{sameBytes}
@@ -12,9 +12,16 @@ use Rattle.book.specs.Kinds.{isKnown}
 use Rattle.book.specs.Book.{placesFrom, doseLawful, recordCheck, recordsCheck, lengthCheck, bookCheck}
 use Rattle.book.specs.Doses.{dosesOf}
 use Rattle.buffer.specs.Buffer.{numbersOf}
+use Rattle.put.specs.Puts.{bytesOf, fourBytes}
+use Rattle.layout.specs.Layout.{offsetFor, indexFrom, storeFrom, structureBytes, withSize, leadBytes, written}
 use Rattle.samples.specs.Samples.{samples, allRight}
+use Rattle.samples.specs.Written.{smallestRight}
 
 pub samples-right : T (allRight samples)
 unfolding be16At be32At sameBytes stringsFrom check both elementSize countRight dataEnd tagBefore entryCheck headerCheck recordsFrom
     structureCheck isKnown placesFrom doseLawful recordCheck recordsCheck lengthCheck bookCheck dosesOf numbersOf
 samples-right = tt
+
+pub smallest-right : T smallestRight
+unfolding sameBytes elementSize bytesOf fourBytes offsetFor indexFrom storeFrom structureBytes withSize leadBytes written
+smallest-right = tt

@@ -1,3 +1,4 @@
 pub mod Stores
 pub mod Books
 pub mod Samples
+pub mod Written

@@ -54,6 +54,28 @@ fn read(name: &[u8], edition: u32) {
     show(answer);
 }
 
+// Writes the smallest package into a buffer, compares it with the one of data/, and writes the answer.
+fn write(name: &[u8]) {
+    let file = os::open_read(name);
+    if file < 0 {
+        os::fail(name);
+        return;
+    }
+    let mut pkg = [0u8; 65537];
+    let n = io::read_full(file, &mut pkg);
+    libc::close(file);
+    let mut out = [0u8; 169];
+    let header = b"\x00\x00\x00\x01\x00\x00\x00\x07\x00\x00\x00\x01\x00\x00\x00\x01";
+    let answer = writer::write(b"a", b"", b"", header, b"\x07", &mut out);
+    io::write_all(STDOUT_FILENO, name);
+    if be::same(&out, &pkg[..n]) {
+        io::write_all(STDOUT_FILENO, b": the same bytes, ");
+    } else {
+        io::write_all(STDOUT_FILENO, b": other bytes, ");
+    }
+    show(answer);
+}
+
 // Sizes, lead and structures.
 fn packages() {
     find(b"right", 1000, 6);
@@ -158,4 +180,5 @@ fn main() {
     books();
     rules();
     book_records();
+    write(b"written_smallest");
 }
