@@ -1,1 +1,2 @@
 pub mod LeadLaws
+pub mod StructureLaws

@@ -8,7 +8,8 @@ use Rattle.lists.specs.Lists.{entriesOf}
 use Rattle.writer.specs.Writing.{writeCheck}
 use Rattle.roundtrip.specs.Lawful.{LentAs, LawfulWriting}
 use Rattle.roundtrip.specs.Theorems.{Octets, AcceptedExactly}
-use Rattle.roundtrip.proofs.ReasonLaws.{FormRight, Writable, accepted}
+use Rattle.reasons.proofs.RightLaws.{FormRight}
+use Rattle.roundtrip.proofs.ReasonLaws.{Writable, accepted}
 use Rattle.roundtrip.proofs.WroteLaws.{zero-number}
 use Rattle.roundtrip.proofs.LentLaws.{wide-of, lent-accepted, form-lent}
 use Rattle.roundtrip.proofs.LawfulLaws.{headed-lawful, signed-lawful}

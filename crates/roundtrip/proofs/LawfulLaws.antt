@@ -19,7 +19,7 @@ use Rattle.lists.specs.Lists.{ListEntry}
 use Rattle.reasons.specs.Reasons.{recordOf, exactFor, dataExact, tagIn, entriesReasons, sizeTag, sizeEntry}
 use Rattle.reasons.proofs.ReasonLaws.{own-passes}
 use Rattle.roundtrip.specs.Lawful.{nth, Strings, LawfulEntry, LawfulEntries}
-use Rattle.roundtrip.proofs.ReasonLaws.{EntryRight, entries-right, ListRight}
+use Rattle.reasons.proofs.RightLaws.{EntryRight, entries-right, ListRight}
 use Rattle.roundtrip.proofs.RecordLaws.{ends-exactly, in-step}
 use Rattle.roundtrip.proofs.TextLaws.{strings-exact}
 

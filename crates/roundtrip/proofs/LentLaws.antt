@@ -17,7 +17,8 @@ use Rattle.writer.specs.Writing.{writtenOf, writeCheck}
 use Rattle.roundtrip.specs.Lawful.{WideEntry, Wide}
 use Rattle.roundtrip.specs.Theorems.{Octets}
 use Rattle.roundtrip.proofs.HoldsLaws.{next-byte, Holds, all, front, rest, moved, part, four}
-use Rattle.roundtrip.proofs.ReasonLaws.{FormRight, Writable, accepted}
+use Rattle.reasons.proofs.RightLaws.{FormRight}
+use Rattle.roundtrip.proofs.ReasonLaws.{Writable, accepted}
 
 -- the numbers of a list
 small : (s : List ℕ) → Octets s → (at : ℕ) → be32At s at < 4294967296

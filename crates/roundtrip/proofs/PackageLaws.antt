@@ -22,11 +22,12 @@ use Rattle.lists.specs.Lists.{ListEntry}
 use Rattle.reasons.specs.Reasons.{sizeEntry}
 use Rattle.layout.specs.Layout.{structureBytes, withSize, leadBytes, gapBytes, written}
 use Rattle.layout.proofs.LeadLaws.{lead-length}
-use Rattle.writer.proofs.StructureLaws.{structure-length}
+use Rattle.layout.proofs.StructureLaws.{structure-length}
 use Rattle.roundtrip.specs.Lawful.{nth, Wide}
 use Rattle.roundtrip.specs.Theorems.{Finds, withSizeOf, ReadsBack}
 use Rattle.roundtrip.proofs.HoldsLaws.{Holds, all, front, rest, moved, within}
-use Rattle.roundtrip.proofs.ReasonLaws.{ListRight, size-right, Writable}
+use Rattle.reasons.proofs.RightLaws.{ListRight, size-right}
+use Rattle.roundtrip.proofs.ReasonLaws.{Writable}
 use Rattle.roundtrip.proofs.RecordLaws.{Reads}
 use Rattle.roundtrip.proofs.StructureLaws.{StructureRead, structure-read}
 use Rattle.roundtrip.proofs.LeadLaws.{lead-pass, lead-name}

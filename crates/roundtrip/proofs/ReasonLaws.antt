@@ -1,5 +1,5 @@
--- What refusals 32 to 34 leave, a fact for each test: of an entry (EntryRight), a list (ListRight), a lent list's form
--- (FormRight), a name (LawfulName), and a writing (Accepted). Each run of tests passes exactly when its facts hold.
+-- What refusals 32 to 34 leave of a name (LawfulName) and a writing (Accepted): each run of tests passes exactly when its
+-- facts hold.
 use Prim.Native.Nat.{ℕ, _+_, _/_, _%_, _≤_, _<_}
 use mathlib.Core.Path.{_≡_, refl, sym, ap, _∙_}
 use mathlib.Core.Logic.{_↔_, _≢_}
@@ -12,83 +12,12 @@ use Rattle.strings.proofs.RowLaws.{single-among}
 use Rattle.format.specs.Sizes.{packageLimit, nindexLimit}
 use Rattle.format.specs.declared.verdict.Verdict.the-variants.{Pass}
 use Rattle.format.proofs.VerdictLaws.{passed, inverted, both-pass, both-inverted}
-use Rattle.entries.specs.Entries.{typeLawful, countRight}
-use Rattle.lists.specs.Lists.{ListEntry, entriesOf, sizesFrom}
-use Rattle.reasons.specs.Reasons.{recordOf, dataExact, tagIn, entryReasons, entriesReasons, listReasons, sizeEntry}
-use Rattle.reasons.specs.Reasons.{hasZero, nameReasons, formReasons, reasons}
-use Rattle.reasons.proofs.ReasonLaws.{own-passes}
+use Rattle.lists.specs.Lists.{ListEntry, entriesOf}
+use Rattle.reasons.specs.Reasons.{sizeEntry, hasZero, nameReasons, reasons}
+use Rattle.reasons.proofs.RightLaws.{ListRight, list-right, FormRight, form-right}
 use Rattle.layout.specs.Layout.{written}
 use Rattle.writer.specs.Writing.{roomCheck, writtenOf, writeCheck}
 use Rattle.roundtrip.specs.Lawful.{LawfulName, Wide}
-
--- an entry behind others, of which the tags are given
-pub record EntryRight (seen : List ℕ) (entry : ListEntry) : Type 0 where
-  pub typed : typeLawful (recordOf entry 0) ≡ true
-  pub counted : countRight (recordOf entry 0) ≡ true
-  pub exact : dataExact (entry .ty) (entry .count) (entry .bytes) ≡ true
-  pub fresh : tagIn (entry .tag) seen ≡ false
-
-pub entry-right : (seen : List ℕ) (entry : ListEntry) → (entryReasons seen entry ≡ Pass) ↔ EntryRight seen entry
-unfolding entryReasons
-entry-right seen entry = (
-  λ h.
-      let a = inverted _ _ _ _ h in
-      let b = inverted _ _ _ _ (a .1) in
-      let c = inverted _ _ _ _ (b .1) in
-      let d = inverted _ _ _ _ (c .1) in
-      record { typed = a .0; counted = b .0; exact = c .0; fresh = not-true _ (d .0) },
-  λ r. sym (passed _ _ (r .typed) (passed _ _ (r .counted) (passed _ _ (r .exact) (passed _ _ (ap not (r .fresh)) refl)))),
-)
-
--- some entries: the first, and those behind it
-pub entries-right : (seen : List ℕ) (entry : ListEntry) (rest : List ListEntry)
-    → (entriesReasons seen (entry ∷ rest) ≡ Pass)
-    ↔ (EntryRight seen entry × (entriesReasons (entry .tag ∷ seen) rest ≡ Pass))
-unfolding entriesReasons
-entries-right seen entry rest = (
-  λ h. let k = both-inverted _ _ h in (entry-right seen entry .0 (k .0), k .1),
-  λ h. both-pass (entry-right seen entry .1 (h .0)) ∙ h .1,
-)
-
-pub record ListRight (entries : List ListEntry) : Type 0 where
-  pub some : 1 ≤ length entries
-  pub within : length entries ≤ nindexLimit
-  pub each : entriesReasons [] entries ≡ Pass
-
-pub list-right : (entries : List ListEntry) → (listReasons entries ≡ Pass) ↔ ListRight entries
-unfolding listReasons
-list-right entries = (
-  λ h.
-      let a = inverted _ _ _ _ h in
-      let b = inverted _ _ _ _ (a .1) in
-      record { some = leb-true _ _ (a .0); within = leb-true _ _ (b .0); each = b .1 },
-  λ r. sym (passed _ _ (le-leb _ _ (r .some)) (passed _ _ (le-leb _ _ (r .within)) (sym (r .each)))),
-)
-
--- 1000 passes whatever its number is
-pub size-right : (size : ℕ) (entries : List ListEntry) → ListRight (sizeEntry 0 ∷ entries)
-    → ListRight (sizeEntry size ∷ entries)
-size-right size entries r =
-    record {
-      some = r .some;
-      within = r .within;
-      each = own-passes size entries ∙ sym (own-passes 0 entries) ∙ r .each;
-    }
-
--- a lent list
-pub record FormRight (list row : List ℕ) : Type 0 where
-  pub whole : length list % 16 ≡ 0
-  pub meet : sizesFrom list (length list / 16) 0 ≡ length row
-
-pub form-right : (list row : List ℕ) → (formReasons list row ≡ Pass) ↔ FormRight list row
-unfolding formReasons
-form-right list row = (
-  λ h.
-      let a = inverted _ _ _ _ h in
-      let b = inverted _ _ _ _ (a .1) in
-      record { whole = eqb-true _ _ (a .0); meet = eqb-true _ _ (b .0) },
-  λ r. sym (passed _ _ (eq-eqb _ _ (r .whole)) (passed _ _ (eq-eqb _ _ (r .meet)) refl)),
-)
 
 -- a name has no zero byte
 zeroless : (name : List ℕ) → (hasZero name ≡ false) ↔ ((i : ℕ) → i < length name → getD name i 0 ≢ 0)

@@ -33,7 +33,7 @@ use Rattle.reasons.specs.Reasons.{recordOf, endsAt, exactFor, dataExact, tagIn}
 use Rattle.layout.specs.Layout.{alignFor, offsetFor, dataStart, dataStop, recordBytes}
 use Rattle.roundtrip.specs.Lawful.{WideEntry}
 use Rattle.roundtrip.proofs.HoldsLaws.{Holds, front, rest, moved, part, four, strings}
-use Rattle.roundtrip.proofs.ReasonLaws.{EntryRight}
+use Rattle.reasons.proofs.RightLaws.{EntryRight}
 
 -- data goes to a place at or after that up to which the store is filled, and is aligned there
 aligned : (a b c d : Bool) (at : ℕ) (size : ElementSize)

@@ -20,11 +20,10 @@ use Rattle.put.proofs.PutLaws.{length-four}
 use Rattle.lists.specs.Lists.{ListEntry}
 use Rattle.reasons.specs.Reasons.{tagIn, entriesReasons}
 use Rattle.layout.specs.Layout.{dataStart, dataStop, indexFrom, storeFrom, headerBytes, structureBytes}
-use Rattle.writer.proofs.TurnLaws.{index-step, store-step}
-use Rattle.writer.proofs.StructureLaws.{index-length, structure-length}
+use Rattle.layout.proofs.StructureLaws.{index-step, store-step, index-length, structure-length}
 use Rattle.roundtrip.specs.Lawful.{nth, Wide}
 use Rattle.roundtrip.proofs.HoldsLaws.{Holds, front, rest, moved, within, four}
-use Rattle.roundtrip.proofs.ReasonLaws.{entries-right, ListRight}
+use Rattle.reasons.proofs.RightLaws.{entries-right, ListRight}
 use Rattle.roundtrip.proofs.RecordLaws.{offset-right, Reads, placed}
 
 -- the records from place i of the index on are a list's entries

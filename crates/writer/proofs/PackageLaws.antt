@@ -20,7 +20,7 @@ use Rattle.writer.specs.declared.Plan.{Plan}
 use Rattle.writer.specs.declared.Plan.the-variants as plan
 use Rattle.writer.specs.Writing.{roomCheck, writtenOf}
 use Rattle.writer.specs.Sizes.{Listed, structureSize, signatureStore, headerStore, sizesWith, sizesOf, planned}
-use Rattle.writer.proofs.StructureLaws.{structure-length, signature-length}
+use Rattle.layout.proofs.StructureLaws.{structure-length, signature-length}
 
 -- data of the sizes that a list says takes at least its own length in a store
 sizes-fill : (list row : List ℕ) (n i at filled : ℕ) → at + sizesFrom list n i ≡ length row

@@ -1,5 +1,5 @@
 -- A structure from its parts (structure-put), the signature with 1000 first (signature-put), data and zero bytes (run-put) and
--- four numbers (four-numbers); how long they are (index-length, structure-length, signature-length).
+-- four numbers (four-numbers).
 use Prim.Native.Nat.{ℕ, suc, _+_, _-_, _*_, _≤_}
 use mathlib.Core.Path.{_≡_, refl, sym, ap, _∙_}
 use mathlib.Core.List.{List, [], _∷_, _++_}
@@ -8,11 +8,11 @@ use lib.Seq.{sets}
 use native.Mathlib.Omega.{arith}
 use Rattle.put.specs.Puts.{bytesOf, fourBytes, zeros}
 use Rattle.put.proofs.PutLaws.{behind, length-bytes, length-four}
-use Rattle.entries.specs.Types.{elementSize}
 use Rattle.lists.specs.Lists.{ListEntry, entriesFrom}
 use Rattle.lists.proofs.ListLaws.{entries-total}
 use Rattle.reasons.specs.Reasons.{sizeEntry}
-use Rattle.layout.specs.Layout.{offsetFor, dataStop, indexFrom, storeFrom, structureBytes}
+use Rattle.layout.specs.Layout.{indexFrom, storeFrom, structureBytes}
+use Rattle.layout.proofs.StructureLaws.{index-length, size-index, size-store}
 
 pub four-numbers : (out : List ℕ) (at a b c d : ℕ) {o₁ o₂ o₃ o₄ : List ℕ} → o₁ ≡ sets out at (bytesOf a)
     → o₂ ≡ sets o₁ (at + 4) (bytesOf b) → o₃ ≡ sets o₂ (at + 8) (bytesOf c) → o₄ ≡ sets o₃ (at + 12) (bytesOf d)
@@ -27,11 +27,6 @@ four-numbers out at a b c d p q r s =
 pub run-put : (out : List ℕ) (at gap : ℕ) (run : List ℕ) {o₁ o₂ : List ℕ} → o₁ ≡ sets out at run
     → o₂ ≡ sets o₁ (at + length run) (zeros gap) → o₂ ≡ sets out at (run ++ zeros gap)
 run-put out at gap run p q = behind out at run (zeros gap) p q refl
-
-pub index-length : (filled : ℕ) (entries : List ListEntry) → length (indexFrom filled entries) ≡ 16 * length entries
-unfolding indexFrom fourBytes bytesOf
-index-length filled [] = refl
-index-length filled (entry ∷ rest) = let k = index-length (dataStop filled entry) rest in omega arith
 
 pub structure-put : (out : List ℕ) (place : ℕ) (list row : List ℕ) (n size : ℕ) {o₁ o₂ o₃ : List ℕ}
     → size ≡ length (storeFrom 0 (entriesFrom list row n 0 0)) → o₁ ≡ sets out place (fourBytes 0x8EADE801 0 n size)
@@ -48,16 +43,6 @@ structure-put out place list row n size {o₁} z p q r =
     rw (a, d)
     (behind out place (fourBytes 0x8EADE801 0 n size) (indexFrom 0 entries ++ storeFrom 0 entries) p
     (behind o₁ (place + 16) (indexFrom 0 entries) (storeFrom 0 entries) q r (omega arith)) (omega arith))
-
--- 1000 first, in the index and in the store
-size-index : (size : ℕ) (entries : List ListEntry)
-    → indexFrom 0 (sizeEntry size ∷ entries) ≡ fourBytes 1000 4 0 1 ++ indexFrom 4 entries
-unfolding indexFrom offsetFor elementSize bytesOf
-size-index size entries = refl
-
-pub size-store : (size : ℕ) (entries : List ListEntry) → storeFrom 0 (sizeEntry size ∷ entries) ≡ bytesOf size ++ storeFrom 4 entries
-unfolding storeFrom offsetFor elementSize bytesOf
-size-store size entries = refl
 
 pub signature-put : (out : List ℕ) (place : ℕ) (list row : List ℕ) (n size number : ℕ) {o₁ o₂ o₃ o₄ o₅ : List ℕ}
     → size ≡ 4 + length (storeFrom 4 (entriesFrom list row n 0 0)) → o₁ ≡ sets out place (fourBytes 0x8EADE801 0 (n + 1) size)
@@ -84,24 +69,3 @@ signature-put out place list row n size number {o₁} {o₂} {o₃} z p q r s t 
     (behind o₁ (place + 16) (fourBytes 1000 4 0 1 ++ indexFrom 4 entries) (bytesOf number ++ storeFrom 4 entries)
     (behind o₁ (place + 16) (fourBytes 1000 4 0 1) (indexFrom 4 entries) q r (omega arith))
     (behind o₃ (place + 16 + 16 + 16 * n) (bytesOf number) (storeFrom 4 entries) s t (omega arith)) (omega arith)) (omega arith))
-
--- the structures' lengths
-pub structure-length : (entries : List ListEntry)
-    → length (structureBytes entries) ≡ 16 + 16 * length entries + length (storeFrom 0 entries)
-unfolding structureBytes
-structure-length entries =
-    let a = index-length 0 entries in
-    let b = length-append (indexFrom 0 entries) (storeFrom 0 entries) in
-    let c = length-four 0x8EADE801 0 (length entries) (length (storeFrom 0 entries)) in
-    let d = length-append (fourBytes 0x8EADE801 0 (length entries) (length (storeFrom 0 entries)))
-    (indexFrom 0 entries ++ storeFrom 0 entries) in
-    omega arith
-
-pub signature-length : (number : ℕ) (entries : List ListEntry)
-    → length (structureBytes (sizeEntry number ∷ entries)) ≡ 16 + 16 * (length entries + 1) + (4 + length (storeFrom 4 entries))
-signature-length number entries =
-    let a = structure-length (sizeEntry number ∷ entries) in
-    let b = ap length (size-store number entries) in
-    let c = length-append (bytesOf number) (storeFrom 4 entries) in
-    let d = length-bytes number in
-    omega arith

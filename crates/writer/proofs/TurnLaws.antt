@@ -15,26 +15,7 @@ use Rattle.lists.specs.Lists.{ListEntry, listRecordAt, recordShown, sizeAt, ent
 use Rattle.lists.proofs.ListLaws.{record-whole, entries-step, entries-none, sizes-step}
 use Rattle.reasons.specs.Reasons.{recordOf}
 use Rattle.layout.specs.Layout.{recordBytes, offsetFor, dataStart, dataStop, indexFrom, storeFrom}
-
-pub index-step : (filled : ℕ) (entry : ListEntry) (rest : List ListEntry)
-    → indexFrom filled (entry ∷ rest)
-    ≡ recordBytes (recordOf entry (dataStart filled entry)) ++ indexFrom (dataStop filled entry) rest
-unfolding indexFrom
-index-step filled entry rest = refl
-
-index-none : (filled : ℕ) → indexFrom filled [] ≡ []
-unfolding indexFrom
-index-none filled = refl
-
-pub store-step : (filled : ℕ) (entry : ListEntry) (rest : List ListEntry)
-    → storeFrom filled (entry ∷ rest)
-    ≡ zeros (dataStart filled entry - filled) ++ (entry .bytes ++ storeFrom (dataStop filled entry) rest)
-unfolding storeFrom
-store-step filled entry rest = refl
-
-store-none : (filled : ℕ) → storeFrom filled [] ≡ []
-unfolding storeFrom
-store-none filled = refl
+use Rattle.layout.proofs.StructureLaws.{index-step, index-none, store-step, store-none}
 
 -- in the shape of what is known in a turn
 module _ (list row : List ℕ) (n i at filled : ℕ) (w : 16 * n ≤ length list) (f : at + sizesFrom list (n - i) i ≡ length row)

@@ -5,7 +5,7 @@ use mathlib.Core.List.{List, [], _∷_}
 use lib.ListN.{length}
 use lib.Seq.{sets}
 use native.Mathlib.Omega.{arith}
-use borrow.Author.Tests.{leb-true, eqb-true}
+use borrow.Author.Tests.{leb-true}
 use Rattle.format.specs.declared.verdict.Verdict.{Verdict}
 use Rattle.format.specs.declared.verdict.Verdict.the-variants.{Pass, Fail}
 use Rattle.format.specs.declared.verdict.Answer.the-variants as answer
@@ -13,21 +13,14 @@ use Rattle.format.specs.Verdicts.{check, both}
 use Rattle.format.proofs.VerdictLaws.{inverted, both-inverted, both-pass, both-fail}
 use Rattle.lists.specs.Lists.{ListEntry, entriesOf, sizesFrom}
 use Rattle.lists.proofs.ListLaws.{entries-total}
-use Rattle.reasons.specs.Reasons.{formReasons, listReasons, reasons}
+use Rattle.reasons.specs.Reasons.{reasons}
+use Rattle.reasons.proofs.RightLaws.{list-right, form-right}
 use Rattle.writer.specs.declared.Sizes.{Sizes}
 use Rattle.writer.specs.declared.Plan.{Plan}
 use Rattle.writer.specs.declared.Plan.the-variants as plan
 use Rattle.writer.specs.Writing.{roomCheck, writtenOf, writeCheck, Wrote}
 use Rattle.writer.specs.Sizes.{Listed, sizesOf, planAs, planned}
 use Rattle.writer.proofs.PackageLaws.{written-length, stores-fit}
-
-formed : (list row : List ℕ) → formReasons list row ≡ Pass → sizesFrom list (length list / 16) 0 ≡ length row
-unfolding formReasons
-formed list row h = eqb-true _ _ (inverted _ _ _ _ (inverted _ _ _ _ h .1) .0)
-
-few : (entries : List ListEntry) → listReasons entries ≡ Pass → length entries ≤ 512
-unfolding listReasons
-few entries h = leb-true _ _ (inverted _ _ _ _ (inverted _ _ _ _ h .1) .0)
 
 -- what 32 leaves
 record Lent (sig sigs head heads : List ℕ) : Type 0 where
@@ -55,11 +48,11 @@ module _ (name sig sigs head heads : List ℕ) {v : Verdict} (p : v ≡ reasons 
         let d = both-inverted _ _ (c .1) in
         let e = entries-total sig sigs (length sig / 16) 0 0 in
         let f = entries-total head heads (length head / 16) 0 0 in
-        let i = few _ (d .0) in
-        let j = few _ (d .1) in
+        let i = list-right _ .0 (d .0) .within in
+        let j = list-right _ .0 (d .1) .within in
         record {
-          signed = formed sig sigs (a .0);
-          headed = formed head heads (b .0);
+          signed = form-right sig sigs .0 (a .0) .meet;
+          headed = form-right head heads .0 (b .0) .meet;
           fewSigned = omega arith;
           fewHeaded = omega arith;
         }
