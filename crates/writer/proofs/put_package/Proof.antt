@@ -26,7 +26,7 @@ add-end-4 : tie.Need-add-end-4
 add-end-4 c = search needs
 
 sub-number : tie.Need-sub-number
-sub-number c = search laws.number-fits
+sub-number c = search (needs, laws.number-fits)
 
 put-lead-requires : tie.Need-put-lead-requires
 put-lead-requires c κs = search needs
@@ -37,7 +37,7 @@ put-signature-requires c κs =
     laws.signature-ready _ _ _ _ (start .pre .2) (start .pre .3) (start .pre .4) (search needs) (start .pre .0)
 
 sub-zeros : tie.Need-sub-zeros
-sub-zeros c = search laws.gap-fits
+sub-zeros c = search (needs, laws.gap-fits)
 
 zeros-requires : tie.Need-zeros-requires
 zeros-requires c κs = search needs
