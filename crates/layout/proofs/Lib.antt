@@ -1,2 +1,4 @@
 pub mod LeadLaws
+pub mod OffsetLaws
 pub mod StructureLaws
+pub mod TurnLaws

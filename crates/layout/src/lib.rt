@@ -1,8 +1,21 @@
 // The layout of a package that is written, and its lead.
 ghost use mathlib.Core.Path.{_≡_};
+ghost use Prim.Native.Nat.{_+_, _≤_};
 ghost use lib.Seq.{sets};
-ghost use Rattle.layout.specs.Layout.{nameBytes, leadBytes};
+ghost use Rattle.layout.specs.Layout.{offsetFor, nameBytes, leadBytes};
 use format::Lead;
+
+// Where data of a type goes, at or after a place of the store.
+pub fn offset_for(ty: u32, filled: u32) -> usize
+    ensures { λ r. ⌜ (r ≡ offsetFor ty filled) × (filled ≤ r) × (r ≤ filled + 3) ⌝ }
+{
+    let at = filled as usize;
+    match ty {
+        3 => (at + 1) / 2 * 2,
+        4 => (at + 3) / 4 * 4,
+        _ => at,
+    }
+}
 
 // Puts a name into the lead, with zero bytes behind it.
 fn put_name(out: &mut [u8], name: &[u8])

@@ -1,10 +1,12 @@
--- Stores in a buffer (out-of-room, sets-append, sets-past, behind, at-front); four of them (four-stores, cut-1 to cut-4); a copy
--- and a fill, turn by turn (copy-turn, copied, fill-turn, filled); the length of what is put (length-bytes, length-four).
+-- Stores in a buffer (out-of-room, sets-append, sets-past, behind, at-front); four of them (four-stores, three-stores), and what
+-- there is no room for (cut-none, cut-one, cut-two, last-cut, cut-behind); a copy and a fill, turn by turn (copy-turn, copied,
+-- fill-turn, filled); numbers in a row (one-number to four-numbers), bytes and zero bytes (run-put, run-past, run-cut); the
+-- length of what is put (length-bytes, length-four).
 use Prim.Native.Nat.{ℕ, zero, suc, _+_, _-_, _*_, _/_, _%_, _≤_, _<_}
 use mathlib.Core.Path.{_≡_, refl, sym, ap, _∙_}
 use mathlib.Core.List.{List, [], _∷_, _++_}
 use lib.ListN.{length, getD, set, drop, drop-of-length-le, length-set, length-drop, length-replicate}
-use lib.Seq.{sets, sets-eq, set-out, drop-cons}
+use lib.Seq.{sets, sets-eq, set-out, drop-cons, length-sets}
 use native.Mathlib.Nat.{add-zero}
 use native.Mathlib.Numerals.{add-one}
 use native.Mathlib.Omega.{arith}
@@ -97,6 +99,52 @@ module _ (out : List ℕ) (at all n i : ℕ) {v : List ℕ} (inv : v ≡ sets ou
   pub filled : {len : ℕ} → n ≡ all - (all - (len - at)) → length out ≡ len → n ≤ i → out ≡ v
   filled e f l =
       sym (inv ∙ no-more out (at + i) (zeros (all - i)) (λ h. let k = length-replicate {A = ℕ} (all - i) 0 in omega arith))
+
+-- what the buffer has no room for behind what was put
+pub cut-behind : (out : List ℕ) (at : ℕ) (xs ys : List ℕ) {o : List ℕ} → o ≡ sets out at xs → length out ≤ at + length xs
+    → o ≡ sets out at (xs ++ ys)
+cut-behind out at xs ys p h =
+    let k = length-sets out at xs in
+    p ∙ sym (sets-append out at xs ys ∙ sets-past (sets out at xs) (at + length xs) ys (omega arith))
+
+-- four numbers, as far as there is room
+module _ (out : List ℕ) (at a b c d : ℕ) {o₁ : List ℕ} (p : o₁ ≡ sets out at (bytesOf a)) where
+  pub one-number : length out - at ≤ 4 → o₁ ≡ sets out at (fourBytes a b c d)
+  unfolding fourBytes bytesOf
+  one-number h = cut-behind out at (bytesOf a) (bytesOf b ++ (bytesOf c ++ bytesOf d)) p (omega arith)
+
+  module _ {o₂ : List ℕ} (q : o₂ ≡ sets o₁ (at + 4) (bytesOf b)) where
+    pub two-numbers : length out - at ≤ 8 → o₂ ≡ sets out at (fourBytes a b c d)
+    unfolding fourBytes bytesOf
+    two-numbers h =
+        cut-behind out at (bytesOf a ++ bytesOf b) (bytesOf c ++ bytesOf d) (behind out at (bytesOf a) (bytesOf b) p q refl)
+        (omega arith)
+
+    module _ {o₃ : List ℕ} (r : o₃ ≡ sets o₂ (at + 8) (bytesOf c)) where
+      three : o₃ ≡ sets out at (bytesOf a ++ bytesOf b ++ bytesOf c)
+      unfolding bytesOf
+      three = behind out at (bytesOf a ++ bytesOf b) (bytesOf c) (behind out at (bytesOf a) (bytesOf b) p q refl) r refl
+
+      pub three-numbers : length out - at ≤ 12 → o₃ ≡ sets out at (fourBytes a b c d)
+      unfolding fourBytes bytesOf
+      three-numbers h = cut-behind out at (bytesOf a ++ bytesOf b ++ bytesOf c) (bytesOf d) three (omega arith)
+
+      pub four-numbers : {o₄ : List ℕ} → o₄ ≡ sets o₃ (at + 12) (bytesOf d) → o₄ ≡ sets out at (fourBytes a b c d)
+      unfolding fourBytes bytesOf
+      four-numbers s = behind out at (bytesOf a ++ bytesOf b ++ bytesOf c) (bytesOf d) three s refl
+
+-- bytes and zero bytes, as far as there is room
+pub run-put : (out : List ℕ) (at n : ℕ) (run : List ℕ) {o₁ o₂ : List ℕ} → o₁ ≡ sets out at run
+    → o₂ ≡ sets o₁ (at + length run) (zeros n) → o₂ ≡ sets out at (run ++ zeros n)
+run-put out at n run p q = behind out at run (zeros n) p q refl
+
+pub run-past : (out : List ℕ) (at n : ℕ) (run : List ℕ) {o : List ℕ} → o ≡ sets out at run → length out ≤ at
+    → o ≡ sets out at (run ++ zeros n)
+run-past out at n run p h = cut-behind out at run (zeros n) p (omega arith)
+
+pub run-cut : (out : List ℕ) (at n : ℕ) (run : List ℕ) {o : List ℕ} → o ≡ sets out at run → length out - at ≤ length run
+    → o ≡ sets out at (run ++ zeros n)
+run-cut out at n run p h = cut-behind out at run (zeros n) p (omega arith)
 
 -- the length of a number, and of four
 pub length-bytes : (n : ℕ) → length (bytesOf n) ≡ 4

@@ -2,10 +2,10 @@
 // Each function answers for any place: what the buffer has no room for is left out.
 ghost use mathlib.Core.Path.{_≡_};
 ghost use Prim.Native.Nat.{ℕ, _+_, _-_, _≤_, _<_};
-ghost use mathlib.Core.List.{[], _∷_};
+ghost use mathlib.Core.List.{[], _∷_, _++_};
 ghost use lib.ListN.{length};
 ghost use lib.Seq.{sets};
-ghost use Rattle.put.specs.Puts.{bytesOf, zeros};
+ghost use Rattle.put.specs.Puts.{bytesOf, fourBytes, zeros};
 
 // How many of `n` bytes from a place on a buffer of `len` bytes has.
 fn room(len: usize, at: usize, n: usize) -> usize
@@ -102,4 +102,44 @@ pub fn zeros(out: &mut [u8], at: usize, n: usize)
         out[at + i] = 0;
         i += 1;
     }
+}
+
+// Puts four numbers in a row at a place.
+pub fn numbers(out: &mut [u8], at: usize, a: u32, b: u32, c: u32, d: u32)
+    ensures { λ r. ⌜ now (out .exit) ≡ sets (now (out .entry)) at (fourBytes a b c d) ⌝ }
+{
+    let len = out.len();
+    if len <= at {
+        return;
+    }
+    let rest = len - at;
+    number(out, at, a);
+    if rest <= 4 {
+        return;
+    }
+    number(out, at + 4, b);
+    if rest <= 8 {
+        return;
+    }
+    number(out, at + 8, c);
+    if rest <= 12 {
+        return;
+    }
+    number(out, at + 12, d);
+}
+
+// Puts bytes and then `n` zero bytes at a place.
+pub fn run(out: &mut [u8], at: usize, from: &[u8], n: usize)
+    ensures { λ r. ⌜ now (out .exit) ≡ sets (now (out .entry)) at (now (from .entry) ++ zeros n) ⌝ }
+{
+    let len = out.len();
+    let extent = from.len();
+    bytes(out, at, from);
+    if len <= at {
+        return;
+    }
+    if len - at <= extent {
+        return;
+    }
+    zeros(out, at + extent, n);
 }

@@ -5,7 +5,7 @@ use mathlib.Core.List.{List}
 use lib.ListN.{length}
 use Rattle.format.specs.declared.verdict.Verdict.the-variants.{Pass}
 use Rattle.lists.specs.Lists.{entriesOf}
-use Rattle.writer.specs.Writing.{writeCheck}
+use Rattle.plan.specs.Refusals.{writeCheck}
 use Rattle.roundtrip.specs.Lawful.{LentAs, LawfulWriting}
 use Rattle.roundtrip.specs.Theorems.{Octets, AcceptedExactly}
 use Rattle.reasons.proofs.RightLaws.{FormRight}

@@ -13,7 +13,7 @@ use Rattle.put.specs.Puts.{bytesOf, fourBytes}
 use Rattle.put.proofs.PutLaws.{length-four}
 use Rattle.lists.specs.Lists.{ListEntry, listOf, rowOf, sizeAt, entryAt, entriesFrom, entriesOf, sizesFrom}
 use Rattle.layout.specs.Layout.{written}
-use Rattle.writer.specs.Writing.{writtenOf, writeCheck}
+use Rattle.plan.specs.Refusals.{writtenOf, writeCheck}
 use Rattle.roundtrip.specs.Lawful.{WideEntry, Wide}
 use Rattle.roundtrip.specs.Theorems.{Octets}
 use Rattle.roundtrip.proofs.HoldsLaws.{next-byte, Holds, all, front, rest, moved, part, four}

@@ -7,7 +7,7 @@ use Rattle.format.specs.declared.verdict.Verdict.the-variants.{Fail}
 use Rattle.format.proofs.NumberLaws.{pass-number, check-number, both-number}
 use Rattle.lists.specs.Lists.{ListEntry}
 use Rattle.reasons.specs.Reasons.{entryReasons, entriesReasons, listReasons, nameReasons, formReasons, reasons}
-use Rattle.writer.specs.Writing.{roomCheck, writeCheck}
+use Rattle.plan.specs.Refusals.{roomCheck, writeCheck}
 
 -- a number of this writing's own
 abbrev Ours : ℕ → Type 0

@@ -16,7 +16,7 @@ use Rattle.lists.specs.Lists.{ListEntry, entriesOf}
 use Rattle.reasons.specs.Reasons.{sizeEntry, hasZero, nameReasons, reasons}
 use Rattle.reasons.proofs.RightLaws.{ListRight, list-right, FormRight, form-right}
 use Rattle.layout.specs.Layout.{written}
-use Rattle.writer.specs.Writing.{roomCheck, writtenOf, writeCheck}
+use Rattle.plan.specs.Refusals.{roomCheck, writtenOf, writeCheck}
 use Rattle.roundtrip.specs.Lawful.{LawfulName, Wide}
 
 -- a name has no zero byte

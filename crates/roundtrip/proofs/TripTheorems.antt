@@ -7,7 +7,8 @@ use native.Mathlib.Omega.{arith}
 use Rattle.format.specs.declared.verdict.Answer.{Answer}
 use Rattle.format.specs.declared.verdict.Answer.the-variants.{Done}
 use Rattle.lists.specs.Lists.{ListEntry, listOf, rowOf, entriesOf}
-use Rattle.writer.specs.Writing.{writtenOf, Wrote}
+use Rattle.plan.specs.Refusals.{writtenOf}
+use Rattle.writer.specs.Writing.{Wrote}
 use Rattle.roundtrip.specs.Shown.{shown, behindFirst}
 use Rattle.roundtrip.specs.Theorems.{Octets, Made, ReadBack, WriteAgain}
 use Rattle.roundtrip.proofs.ReasonLaws.{Writable, accepted}

@@ -13,7 +13,8 @@ use Rattle.format.specs.declared.verdict.Answer.{Answer}
 use Rattle.format.specs.declared.verdict.Answer.the-variants.{Done}
 use Rattle.format.specs.Verdicts.{numberOf}
 use Rattle.put.proofs.PutLaws.{at-front}
-use Rattle.writer.specs.Writing.{writtenOf, writeCheck, answerAs, bufferAs, Wrote}
+use Rattle.plan.specs.Refusals.{writtenOf, writeCheck}
+use Rattle.writer.specs.Writing.{answerAs, bufferAs, Wrote}
 use Rattle.roundtrip.proofs.ReasonLaws.{accepted}
 use Rattle.roundtrip.proofs.NumberLaws.{write-number}
 

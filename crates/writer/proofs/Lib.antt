@@ -1,4 +1,3 @@
-pub mod OffsetLaws
 pub mod TurnLaws
 pub mod StructureLaws
 pub mod PackageLaws

@@ -1,5 +1,4 @@
--- A structure from its parts (structure-put), the signature with 1000 first (signature-put), data and zero bytes (run-put) and
--- four numbers (four-numbers).
+-- A structure from its parts (structure-put), and the signature with 1000 first (signature-put).
 use Prim.Native.Nat.{ℕ, suc, _+_, _-_, _*_, _≤_}
 use mathlib.Core.Path.{_≡_, refl, sym, ap, _∙_}
 use mathlib.Core.List.{List, [], _∷_, _++_}
@@ -13,20 +12,6 @@ use Rattle.lists.proofs.ListLaws.{entries-total}
 use Rattle.reasons.specs.Reasons.{sizeEntry}
 use Rattle.layout.specs.Layout.{indexFrom, storeFrom, structureBytes}
 use Rattle.layout.proofs.StructureLaws.{index-length, size-index, size-store}
-
-pub four-numbers : (out : List ℕ) (at a b c d : ℕ) {o₁ o₂ o₃ o₄ : List ℕ} → o₁ ≡ sets out at (bytesOf a)
-    → o₂ ≡ sets o₁ (at + 4) (bytesOf b) → o₃ ≡ sets o₂ (at + 8) (bytesOf c) → o₄ ≡ sets o₃ (at + 12) (bytesOf d)
-    → o₄ ≡ sets out at (fourBytes a b c d)
-unfolding fourBytes bytesOf
-four-numbers out at a b c d p q r s =
-    behind out at (bytesOf a ++ bytesOf b ++ bytesOf c) (bytesOf d)
-    (behind out at (bytesOf a ++ bytesOf b) (bytesOf c) (behind out at (bytesOf a) (bytesOf b) p q refl) r refl)
-    s
-    refl
-
-pub run-put : (out : List ℕ) (at gap : ℕ) (run : List ℕ) {o₁ o₂ : List ℕ} → o₁ ≡ sets out at run
-    → o₂ ≡ sets o₁ (at + length run) (zeros gap) → o₂ ≡ sets out at (run ++ zeros gap)
-run-put out at gap run p q = behind out at run (zeros gap) p q refl
 
 pub structure-put : (out : List ℕ) (place : ℕ) (list row : List ℕ) (n size : ℕ) {o₁ o₂ o₃ : List ℕ}
     → size ≡ length (storeFrom 0 (entriesFrom list row n 0 0)) → o₁ ≡ sets out place (fourBytes 0x8EADE801 0 n size)

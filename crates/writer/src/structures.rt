@@ -1,68 +1,17 @@
 // Puts a structure into a buffer: its header record, its index and its store.
 ghost use mathlib.Core.Path.{_≡_};
-ghost use mathlib.Core.List.{[], _∷_, _++_};
+ghost use mathlib.Core.List.{_∷_};
 ghost use Prim.Native.Nat.{ℕ, _+_, _*_, _/_, _≤_, _<_};
 ghost use lib.ListN.{length};
 ghost use lib.Seq.{sets};
 ghost use Rattle.format.specs.Sizes.{packageLimit};
-ghost use Rattle.put.specs.Puts.{fourBytes, zeros};
 ghost use Rattle.lists.specs.Lists.{entriesOf};
 ghost use Rattle.reasons.specs.Reasons.{sizeEntry};
-ghost use Rattle.layout.specs.Layout.{offsetFor, indexFrom, storeFrom, structureBytes};
-ghost use Rattle.writer.specs.Sizes.{Listed, structureSize, signatureStore, headerStore};
+ghost use Rattle.layout.specs.Layout.{indexFrom, storeFrom, structureBytes};
+ghost use Rattle.plan.specs.Sizes.{Listed, structureSize, signatureStore, headerStore};
 use format::HeaderRecord;
 use format::IndexRecord;
 use lists::ListRecord;
-
-// Where data of a type goes, at or after a place of the store.
-fn offset_for(ty: u32, filled: usize) -> usize
-    requires { ⌜ filled < 4294967296 ⌝ }
-    ensures { λ r. ⌜ (r ≡ offsetFor ty filled) × (filled ≤ r) × (r ≤ filled + 3) ⌝ }
-{
-    match ty {
-        3 => (filled + 1) / 2 * 2,
-        4 => (filled + 3) / 4 * 4,
-        _ => filled,
-    }
-}
-
-// Up to where the store of a list is filled, from a place on.
-pub(crate) fn store_end(list: &[u8], row: &[u8], start: usize) -> usize
-    requires { ⌜ Listed (now list) (now row) × (start ≤ 4) ⌝ }
-    ensures { λ r. ⌜ (r ≡ start + length (storeFrom start (entriesOf (now (list .entry)) (now (row .entry))))) × (r ≤ 2 * packageLimit) ⌝ }
-{
-    let n = (list.len() / ListRecord::SIZE) as u32;
-    let mut at = 0;
-    let mut filled = start;
-    let mut i = 0;
-    while i < n {
-        let e = lists::entry(list, i);
-        let offset = offset_for(e.ty, filled);
-        filled = offset + e.size as usize;
-        at += e.size as usize;
-        i += 1;
-    }
-    filled
-}
-
-// Puts four numbers at a place.
-fn put_numbers(out: &mut [u8], at: usize, a: u32, b: u32, c: u32, d: u32)
-    requires { ⌜ at + 16 ≤ length (now out) ⌝ }
-    ensures { λ r. ⌜ now (out .exit) ≡ sets (now (out .entry)) at (fourBytes a b c d) ⌝ }
-{
-    put::number(out, at, a);
-    put::number(out, at + 4, b);
-    put::number(out, at + 8, c);
-    put::number(out, at + 12, d);
-}
-
-// Puts the index record of an entry at a place, its data being at an offset of the store.
-fn put_record(out: &mut [u8], at: usize, e: ListRecord, offset: usize)
-    requires { ⌜ (at + 16 ≤ length (now out)) × (offset < 4294967296) ⌝ }
-    ensures { λ r. ⌜ now (out .exit) ≡ sets (now (out .entry)) at (fourBytes (e .tag) (e .ty) offset (e .count)) ⌝ }
-{
-    put_numbers(out, at, e.tag, e.ty, offset as u32, e.count);
-}
 
 // Puts a list's index records at a place, the store being filled up to `start`.
 fn put_index(out: &mut [u8], place: usize, start: usize, list: &[u8], row: &[u8])
@@ -75,22 +24,13 @@ fn put_index(out: &mut [u8], place: usize, start: usize, list: &[u8], row: &[u8]
     let mut i = 0;
     while i < n {
         let e = lists::entry(list, i);
-        let offset = offset_for(e.ty, filled);
-        put_record(out, place + IndexRecord::SIZE * i as usize, e, offset);
+        let offset = layout::offset_for(e.ty, filled as u32);
+        let to = place + IndexRecord::SIZE * i as usize;
+        put::numbers(out, to, e.tag, e.ty, offset as u32, e.count);
         filled = offset + e.size as usize;
         at += e.size as usize;
         i += 1;
     }
-}
-
-// Puts bytes and then zero bytes at a place.
-fn put_run(out: &mut [u8], at: usize, run: &[u8], gap: usize)
-    requires { ⌜ at + (length (now run) + gap) ≤ length (now out) ⌝ }
-    ensures { λ r. ⌜ now (out .exit) ≡ sets (now (out .entry)) at (now (run .entry) ++ zeros gap) ⌝ }
-{
-    let len = run.len();
-    put::bytes(out, at, run);
-    put::zeros(out, at + len, gap);
 }
 
 // Puts a list's data at a place, with zero bytes for alignment, the store being filled up to `start`. Data with no zero bytes
@@ -107,7 +47,7 @@ fn put_store(out: &mut [u8], place: usize, start: usize, list: &[u8], row: &[u8]
     let mut i = 0;
     while i < n {
         let e = lists::entry(list, i);
-        let offset = offset_for(e.ty, filled);
+        let offset = layout::offset_for(e.ty, filled as u32);
         let gap = offset - filled;
         let end = at;
         at = end + e.size as usize;
@@ -116,7 +56,7 @@ fn put_store(out: &mut [u8], place: usize, start: usize, list: &[u8], row: &[u8]
         if gap != 0 {
             let extent = end - from;
             let run = be::part(row, from, extent);
-            put_run(out, to, run, gap);
+            put::run(out, to, run, gap);
             to += extent + gap;
             from = end;
         }
@@ -131,7 +71,7 @@ pub(crate) fn put_structure(out: &mut [u8], place: usize, list: &[u8], row: &[u8
     ensures { λ r. ⌜ now (out .exit) ≡ sets (now (out .entry)) place (structureBytes (entriesOf (now (list .entry)) (now (row .entry)))) ⌝ }
 {
     let n = list.len() / ListRecord::SIZE;
-    put_numbers(out, place, 0x8EAD_E801, 0, n as u32, size as u32);
+    put::numbers(out, place, 0x8EAD_E801, 0, n as u32, size as u32);
     let index = place + HeaderRecord::SIZE;
     put_index(out, index, 0, list, row);
     put_store(out, index + IndexRecord::SIZE * n, 0, list, row);
@@ -151,9 +91,9 @@ pub(crate) fn put_signature(
     ensures { λ r. ⌜ now (out .exit) ≡ sets (now (out .entry)) place (structureBytes (sizeEntry number ∷ entriesOf (now (list .entry)) (now (row .entry)))) ⌝ }
 {
     let n = list.len() / ListRecord::SIZE;
-    put_numbers(out, place, 0x8EAD_E801, 0, n as u32 + 1, size as u32);
+    put::numbers(out, place, 0x8EAD_E801, 0, n as u32 + 1, size as u32);
     let index = place + HeaderRecord::SIZE;
-    put_numbers(out, index, reasons::SIZE_TAG, 4, 0, 1);
+    put::numbers(out, index, reasons::SIZE_TAG, 4, 0, 1);
     put_index(out, index + IndexRecord::SIZE, 4, list, row);
     let store = index + IndexRecord::SIZE + IndexRecord::SIZE * n;
     put::number(out, store, number);

@@ -6,6 +6,7 @@ use lib.Seq.{sets}
 use native.Mathlib.Nat.{add-zero, sub-zero, mul-zero}
 use Rattle.lists.specs.Lists.{entriesFrom, sizesFrom}
 use Rattle.layout.specs.Layout.{indexFrom}
+use Rattle.layout.proofs.TurnLaws as turn
 use Rattle.writer.proofs.TurnLaws as laws
 use borrow.Author.Needs.{needs}
 use Rattle.writer.proofs.structures.put_index.Statement.{statement}
@@ -26,20 +27,26 @@ loop-holds c = (search needs, search needs, simp sub-zero (search needs), search
 entry-requires : tie.Need-entry-requires Inv-loop μ-loop
 entry-requires c κs = search needs
 
+cast-offset-for : tie.Need-cast-offset-for Inv-loop μ-loop
+cast-offset-for c = search needs
+
 offset-for-requires : tie.Need-offset-for-requires Inv-loop μ-loop
 offset-for-requires c κs = search needs
 
-cast-put-record : tie.Need-cast-put-record Inv-loop μ-loop
-cast-put-record c = search needs
+cast-to : tie.Need-cast-to Inv-loop μ-loop
+cast-to c = search needs
 
-mul-put-record : tie.Need-mul-put-record Inv-loop μ-loop
-mul-put-record c = search needs
+mul-to : tie.Need-mul-to Inv-loop μ-loop
+mul-to c = search needs
 
-add-put-record : tie.Need-add-put-record Inv-loop μ-loop
-add-put-record c = search needs
+add-to : tie.Need-add-to Inv-loop μ-loop
+add-to c = search needs
 
-put-record-requires : tie.Need-put-record-requires Inv-loop μ-loop
-put-record-requires c κs = search needs
+cast-numbers : tie.Need-cast-numbers Inv-loop μ-loop
+cast-numbers c = search needs
+
+numbers-requires : tie.Need-numbers-requires Inv-loop μ-loop
+numbers-requires c κs = search needs
 
 cast-filled : tie.Need-cast-filled Inv-loop μ-loop
 cast-filled c = search needs
@@ -60,7 +67,7 @@ loop-less : tie.Need-loop-less Inv-loop μ-loop
 loop-less c = search needs
 
 loop-again : tie.Need-loop-again Inv-loop μ-loop
-loop-again c = (search needs, search needs, search laws.row-turn, search needs, search laws.index-turn, search needs)
+loop-again c = (search needs, search needs, search turn.row-turn, search needs, search laws.index-turn, search needs)
 
 same-length : tie.Need-same-length Inv-loop μ-loop
 same-length c = search needs
@@ -77,11 +84,13 @@ put-index-spec =
     cast-n
     loop-holds
     entry-requires
+    cast-offset-for
     offset-for-requires
-    cast-put-record
-    mul-put-record
-    add-put-record
-    put-record-requires
+    cast-to
+    mul-to
+    add-to
+    cast-numbers
+    numbers-requires
     cast-filled
     add-filled
     cast-at

@@ -4,23 +4,23 @@ use borrow.Author.Needs.{needs}
 use Rattle.writer.proofs.structures.put_signature.Statement.{statement}
 use Rattle.writer.proofs.structures.put_signature.Tie as tie
 
-cast-put-numbers : tie.Need-cast-put-numbers
-cast-put-numbers c = search needs
+cast-numbers : tie.Need-cast-numbers
+cast-numbers c = search needs
 
-add-put-numbers : tie.Need-add-put-numbers
-add-put-numbers c = search needs
+add-numbers : tie.Need-add-numbers
+add-numbers c = search needs
 
-cast-put-numbers-2 : tie.Need-cast-put-numbers-2
-cast-put-numbers-2 c = search needs
+cast-numbers-2 : tie.Need-cast-numbers-2
+cast-numbers-2 c = search needs
 
-put-numbers-requires : tie.Need-put-numbers-requires
-put-numbers-requires c κs = search needs
+numbers-requires : tie.Need-numbers-requires
+numbers-requires c κs = search needs
 
 add-index : tie.Need-add-index
 add-index c = search needs
 
-put-numbers-requires-2 : tie.Need-put-numbers-requires-2
-put-numbers-requires-2 c κs = search needs
+numbers-requires-2 : tie.Need-numbers-requires-2
+numbers-requires-2 c κs = search needs
 
 add-put-index : tie.Need-add-put-index
 add-put-index c = search needs
@@ -66,8 +66,8 @@ returns c =
     (start .args .size)
     (start .args .number)
     (start .pre .1)
-    (o1 .put-numbers .ensures)
-    (o2 .put-numbers2 .ensures)
+    (o1 .numbers .ensures)
+    (o2 .numbers2 .ensures)
     (o3 .put-index .ensures)
     (o4 .number .ensures)
     (o5 .put-store .ensures)
@@ -76,12 +76,12 @@ pub put-signature-spec : {M : Type 1} → statement M
 put-signature-spec =
     tie.close
     (tie.spec
-    cast-put-numbers
-    add-put-numbers
-    cast-put-numbers-2
-    put-numbers-requires
+    cast-numbers
+    add-numbers
+    cast-numbers-2
+    numbers-requires
     add-index
-    put-numbers-requires-2
+    numbers-requires-2
     add-put-index
     put-index-requires
     add-store

@@ -4,9 +4,10 @@ use mathlib.Core.Path.{_≡_}
 use mathlib.Core.List.{_++_}
 use lib.ListN.{length, take, drop}
 use lib.Seq.{sets}
-use native.Mathlib.Nat.{sub-zero, add-zero}
+use native.Mathlib.Nat.{sub-zero}
 use Rattle.lists.specs.Lists.{entriesFrom, sizesFrom}
 use Rattle.layout.specs.Layout.{storeFrom}
+use Rattle.layout.proofs.TurnLaws as turn
 use Rattle.writer.proofs.TurnLaws as laws
 use borrow.Author.Needs.{needs}
 use Rattle.writer.proofs.structures.put_store.Statement.{statement}
@@ -26,6 +27,9 @@ loop-holds c = (search needs, search needs, simp sub-zero (search needs), search
 
 entry-requires : tie.Need-entry-requires Inv-loop μ-loop
 entry-requires c κs = search needs
+
+cast-offset-for : tie.Need-cast-offset-for Inv-loop μ-loop
+cast-offset-for c = search needs
 
 offset-for-requires : tie.Need-offset-for-requires Inv-loop μ-loop
 offset-for-requires c κs = search needs
@@ -54,8 +58,8 @@ sub-extent c = search needs
 part-requires : tie.Need-part-requires Inv-loop μ-loop
 part-requires c κs = search needs
 
-put-run-requires : tie.Need-put-run-requires Inv-loop μ-loop
-put-run-requires c κs = search laws.gap-room
+run-requires : tie.Need-run-requires Inv-loop μ-loop
+run-requires c κs = search needs
 
 add-to : tie.Need-add-to Inv-loop μ-loop
 add-to c = search needs
@@ -67,13 +71,13 @@ loop-less : tie.Need-loop-less Inv-loop μ-loop
 loop-less c = search needs
 
 loop-again : tie.Need-loop-again Inv-loop μ-loop
-loop-again c = (search needs, search needs, search laws.row-turn, search needs, search needs, search laws.gap-next, search laws.gap-turn, search needs)
+loop-again c = (search needs, search needs, search turn.row-turn, search needs, search needs, search laws.gap-next, search laws.gap-turn, search needs)
 
 loop-less-2 : tie.Need-loop-less-2 Inv-loop μ-loop
 loop-less-2 c = search needs
 
 loop-again-2 : tie.Need-loop-again-2 Inv-loop μ-loop
-loop-again-2 c = (search needs, search needs, search laws.row-turn, search needs, search needs, search laws.run-next, search laws.run-turn, search needs)
+loop-again-2 c = (search needs, search needs, search turn.row-turn, search needs, search needs, search laws.run-next, search laws.run-turn, search needs)
 
 sub-part : tie.Need-sub-part Inv-loop μ-loop
 sub-part c = search needs
@@ -99,6 +103,7 @@ put-store-spec =
     cast-n
     loop-holds
     entry-requires
+    cast-offset-for
     offset-for-requires
     sub-gap
     cast-at
@@ -108,7 +113,7 @@ put-store-spec =
     add-i
     sub-extent
     part-requires
-    put-run-requires
+    run-requires
     add-to
     add-to-2
     loop-less

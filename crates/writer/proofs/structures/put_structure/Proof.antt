@@ -4,14 +4,14 @@ use borrow.Author.Needs.{needs}
 use Rattle.writer.proofs.structures.put_structure.Statement.{statement}
 use Rattle.writer.proofs.structures.put_structure.Tie as tie
 
-cast-put-numbers : tie.Need-cast-put-numbers
-cast-put-numbers c = search needs
+cast-numbers : tie.Need-cast-numbers
+cast-numbers c = search needs
 
-cast-put-numbers-2 : tie.Need-cast-put-numbers-2
-cast-put-numbers-2 c = search needs
+cast-numbers-2 : tie.Need-cast-numbers-2
+cast-numbers-2 c = search needs
 
-put-numbers-requires : tie.Need-put-numbers-requires
-put-numbers-requires c κs = search needs
+numbers-requires : tie.Need-numbers-requires
+numbers-requires c κs = search needs
 
 add-index : tie.Need-add-index
 add-index c = search needs
@@ -45,7 +45,7 @@ returns c =
     _
     (start .args .size)
     (start .pre .1)
-    (o1 .put-numbers .ensures)
+    (o1 .numbers .ensures)
     (o2 .put-index .ensures)
     (o3 .put-store .ensures)
 
@@ -53,9 +53,9 @@ pub put-structure-spec : {M : Type 1} → statement M
 put-structure-spec =
     tie.close
     (tie.spec
-    cast-put-numbers
-    cast-put-numbers-2
-    put-numbers-requires
+    cast-numbers
+    cast-numbers-2
+    numbers-requires
     add-index
     put-index-requires
     mul-put-store

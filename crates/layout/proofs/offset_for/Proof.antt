@@ -1,8 +1,8 @@
 -- By the type. Assumes nothing.
-use Rattle.writer.proofs.OffsetLaws as laws
+use Rattle.layout.proofs.OffsetLaws as laws
 use borrow.Author.Needs.{needs}
-use Rattle.writer.proofs.structures.offset_for.Statement.{statement}
-use Rattle.writer.proofs.structures.offset_for.Tie as tie
+use Rattle.layout.proofs.offset_for.Statement.{statement}
+use Rattle.layout.proofs.offset_for.Tie as tie
 
 add-result : tie.Need-add-result
 add-result c = search needs

@@ -1,8 +1,8 @@
 -- 33, 34 and the sizes, for each way through. Assumes nothing.
-use Rattle.writer.proofs.PackageLaws as laws
+use Rattle.plan.proofs.SizeLaws as laws
 use borrow.Author.Needs.{needs}
-use Rattle.writer.proofs.room_check.Statement.{statement}
-use Rattle.writer.proofs.room_check.Tie as tie
+use Rattle.plan.proofs.room_check.Statement.{statement}
+use Rattle.plan.proofs.room_check.Tie as tie
 
 returns : tie.Need-returns
 returns c = search laws.over-first

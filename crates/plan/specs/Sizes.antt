@@ -1,4 +1,4 @@
--- The sizes of a package that is to be written: what the plan of a writing finds.
+-- The sizes of a package that is to be written, and the plan of a writing: these sizes, or the refusal.
 use Prim.Native.Nat.{ℕ, _+_, _*_, _/_, _≤_}
 use mathlib.Core.Path.{_≡_}
 use mathlib.Core.List.{List}
@@ -9,11 +9,11 @@ use Rattle.format.specs.declared.verdict.Verdict.{Verdict}
 use Rattle.format.specs.declared.verdict.Verdict.the-variants.{Pass, Fail}
 use Rattle.lists.specs.Lists.{entriesOf, sizesFrom}
 use Rattle.layout.specs.Layout.{storeFrom}
-use Rattle.writer.specs.declared.Sizes.{Sizes}
-use Rattle.writer.specs.declared.Plan.{Plan}
-use Rattle.writer.specs.declared.Plan.the-variants.{Fits}
-use Rattle.writer.specs.declared.Plan.the-variants as plan
-use Rattle.writer.specs.Writing.{roomCheck}
+use Rattle.plan.specs.declared.Sizes.{Sizes}
+use Rattle.plan.specs.declared.Plan.{Plan}
+use Rattle.plan.specs.declared.Plan.the-variants.{Fits}
+use Rattle.plan.specs.declared.Plan.the-variants as plan
+use Rattle.plan.specs.Refusals.{roomCheck, writeCheck}
 
 -- what 32 and the limit leave of a list as it is lent
 abbrev pub Listed : List ℕ → List ℕ → Type 0
@@ -58,3 +58,8 @@ unfoldable pub planned : List ℕ → List ℕ → List ℕ → List ℕ → ℕ
 planned signature signatureRow header headerRow room =
     planAs (roomCheck (sizesOf signature signatureRow header headerRow .length) room)
     (sizesOf signature signatureRow header headerRow)
+
+-- the sizes, where 32 to 34 pass
+unfoldable pub decided : List ℕ → List ℕ → List ℕ → List ℕ → List ℕ → ℕ → Plan
+decided name signature signatureRow header headerRow room =
+    planAs (writeCheck name signature signatureRow header headerRow room) (sizesOf signature signatureRow header headerRow)

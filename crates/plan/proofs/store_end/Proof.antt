@@ -5,10 +5,10 @@ use lib.ListN.{length}
 use native.Mathlib.Nat.{sub-zero}
 use Rattle.lists.specs.Lists.{entriesFrom, sizesFrom}
 use Rattle.layout.specs.Layout.{storeFrom}
-use Rattle.writer.proofs.TurnLaws as laws
+use Rattle.layout.proofs.TurnLaws as laws
 use borrow.Author.Needs.{needs}
-use Rattle.writer.proofs.structures.store_end.Statement.{statement}
-use Rattle.writer.proofs.structures.store_end.Tie as tie
+use Rattle.plan.proofs.store_end.Statement.{statement}
+use Rattle.plan.proofs.store_end.Tie as tie
 
 abbrev Inv-loop : tie.InvT-loop
 Inv-loop list row start n at₀ filled₀ i₀ at filled i = (i ≤ n) × (16 * n ≤ length list) × (at + sizesFrom list (n - i) i ≡ length row) × (filled ≤ 4 + at + 3 * i) × (start + length (storeFrom start (entriesFrom list row n 0 0)) ≡ filled + length (storeFrom filled (entriesFrom list row (n - i) i at)))
@@ -24,6 +24,9 @@ loop-holds c = (search needs, search needs, simp sub-zero (search needs), search
 
 entry-requires : tie.Need-entry-requires Inv-loop μ-loop
 entry-requires c κs = search needs
+
+cast-offset-for : tie.Need-cast-offset-for Inv-loop μ-loop
+cast-offset-for c = search needs
 
 offset-for-requires : tie.Need-offset-for-requires Inv-loop μ-loop
 offset-for-requires c κs = search needs
@@ -61,6 +64,7 @@ store-end-spec =
     cast-n
     loop-holds
     entry-requires
+    cast-offset-for
     offset-for-requires
     cast-filled
     add-filled
