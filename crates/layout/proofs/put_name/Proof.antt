@@ -14,7 +14,7 @@ add-zeros : tie.Need-add-zeros
 add-zeros c = search needs
 
 sub-zeros : tie.Need-sub-zeros
-sub-zeros c = search laws.shown-short
+sub-zeros c = search (needs, laws.shown-short)
 
 zeros-requires : tie.Need-zeros-requires
 zeros-requires c κs = search needs
