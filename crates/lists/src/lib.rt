@@ -1,6 +1,6 @@
 // A list of entries as it is lent: 16 bytes an entry, and the entries' data in a row.
 ghost use mathlib.Core.Path.{_≡_};
-ghost use Prim.Native.Nat.{_+_, _/_, _≤_, _<_};
+ghost use Prim.Native.Nat.{_+_, _/_, _≤_};
 ghost use lib.ListN.{length, take, drop};
 ghost use Rattle.be.specs.Numbers.{be32At};
 ghost use Rattle.lists.specs.Lists.{recordShown, isWhole, sizesMeet};
@@ -19,7 +19,7 @@ impl ListRecord {
 
 // How many entries a list has.
 pub fn count(list: &[u8]) -> usize
-    ensures { λ r. ⌜ (r ≡ length (now (list .entry)) / 16) × (r < 1152921504606846976) ⌝ }
+    ensures { λ r. ⌜ r ≡ length (now (list .entry)) / 16 ⌝ }
 {
     list.len() / ListRecord::SIZE
 }
