@@ -111,6 +111,8 @@ pub struct Bench {
     pub lent: *const u8,
     current: Box<Current>,
     only: Option<String>,
+    /// Whether the next packages and lists are cases of their own.
+    pub counting: bool,
     pub packages: usize,
     pub comparisons: usize,
     /// How often each number was the answer.
@@ -167,6 +169,7 @@ impl Bench {
                 report,
             }),
             only,
+            counting: true,
             packages: 0,
             comparisons: 0,
             numbers: BTreeMap::new(),
@@ -201,8 +204,8 @@ impl Bench {
 
     /// What the next questions are about, for the report.
     pub fn case(&mut self, bytes: &[u8]) {
-        self.packages += 1;
-        self.current.case += 1;
+        self.packages += usize::from(self.counting);
+        self.current.case += usize::from(self.counting);
         self.current.note = "no note";
         self.current.package.clear();
         self.current.package.extend_from_slice(bytes);

@@ -115,7 +115,7 @@ fn word(input: &[u8], at: usize) -> u32 {
 }
 
 /// A number near this one, or with the same low bits, or an extreme one.
-fn near(random: &mut Random, number: u32) -> u32 {
+pub fn near(random: &mut Random, number: u32) -> u32 {
     match random.below(5) {
         0 => random.pick(&EXTREMES),
         3 => number.wrapping_add(random.pick(&[1 << 8, 1 << 16, 1 << 24])),

@@ -2,9 +2,9 @@
 """Plants the faults of tests/faults, one at a time, in a stand-in for the library, and
 says after how many executions fuzzing finds each. Run from the root:
 
-    tests/fuzz/faults.py [--libfuzzer MINUTES] [CHECK:WHAT...]
+    tests/fuzz/faults.py [--libfuzzer MINUTES] [CHECK|CHECK:WHAT...]
 
-Without names, all faults. The short run of tests/fuzz.sh is used, or libFuzzer for at most
+Without names, all faults; 32, 33, 34 and `writer` are the writer's. The short run of tests/fuzz.sh is used, or libFuzzer for at most
 so many minutes, each time from the corpus alone. It is no part of tests/run.sh.
 """
 import os
@@ -18,8 +18,9 @@ sys.dont_write_bytecode = True
 sys.path.insert(0, 'tests/faults')
 import package_faults  # noqa: E402
 import reading_faults  # noqa: E402
+import writer_faults  # noqa: E402
 
-FAULTS = package_faults.FAULTS + reading_faults.FAULTS
+FAULTS = package_faults.FAULTS + reading_faults.FAULTS + writer_faults.FAULTS
 OUT = pathlib.Path('target/host/fuzz-faults')
 COPY = OUT / 'reference'
 LIBRARY = OUT / 'libstation.so'
@@ -61,7 +62,8 @@ def main():
     words = sys.argv[1:]
     minutes = words[1:2] if words[:1] == ['--libfuzzer'] else []
     names = words[2:] if minutes else words
-    chosen = [fault for fault in FAULTS if not names or f'{fault[0]}:{fault[1]}' in names]
+    chosen = [fault for fault in FAULTS
+              if not names or {str(fault[0]), f'{fault[0]}:{fault[1]}'} & set(names)]
     COPY.mkdir(parents=True, exist_ok=True)
     shutil.copy('tests/faults/standin.rs', COPY)
     right = {path.name: path.read_text() for path in pathlib.Path('tests/reference').glob('*.rs')

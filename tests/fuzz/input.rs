@@ -4,11 +4,13 @@
 //! | Bytes | What |
 //! |---|---|
 //! | 80-83 | an edition, for a reading besides those at 1 and 2 |
-//! | 84-85 | the length of a dose buffer; with the top bit set it is near what the doses need |
+//! | 84-85 | the length of a dose or package buffer; with the top bit set it is near what is needed |
 //! | 86-87 | how many zero bytes are put behind the input |
 //! | 88-91 | a look-up's tag |
 //! | 92, 93 | its type and structure, signed, so that large numbers come up |
 //! | 94, 95 | its element: the upper half, signed, and the lower half |
+//!
+//! What it gives to write is in given.rs; the choices there follow from all its bytes.
 
 use crate::bench::Question;
 use crate::maker::{Package, Structure, S};
@@ -52,12 +54,12 @@ impl Asked {
         }
     }
 
-    /// The dose buffer's length in bytes, where this many doses are stated.
-    pub fn room(&self, doses: usize) -> usize {
+    /// The length of a buffer of which this many bytes are needed.
+    pub fn room(&self, needed: usize) -> usize {
         let number = usize::from(self.room);
         match number < 0x8000 {
             true => number % 5000,
-            false => (8 * doses + number % 32).saturating_sub(16),
+            false => (needed + number % 32).saturating_sub(16),
         }
     }
 }
@@ -69,6 +71,13 @@ pub fn package(input: &[u8]) -> Vec<u8> {
     let mut bytes = input.to_vec();
     bytes.resize(input.len() + usize::from(fill), 0);
     bytes
+}
+
+/// A number that follows from all bytes.
+pub fn sum(bytes: &[u8]) -> u64 {
+    bytes.iter().fold(0xCBF2_9CE4_8422_2325, |sum, &byte| {
+        (sum ^ u64::from(byte)).wrapping_mul(0x0100_0000_01B3)
+    })
 }
 
 /// The shortest input for a package: most zero bytes at its end are left out.

@@ -3,6 +3,7 @@
 
 pub mod change;
 pub mod entries;
+pub mod given;
 pub mod input;
 pub mod target;
 
@@ -30,4 +31,12 @@ mod reading {
     pub mod demand3;
     #[allow(dead_code)]
     pub mod desk;
+}
+
+#[allow(dead_code)]
+#[path = "../compare/writing"]
+mod writing {
+    pub mod desk;
+    pub mod lists;
+    pub mod round_trip;
 }

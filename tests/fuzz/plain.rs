@@ -18,7 +18,7 @@ use fuzz::target::{Target, ASKED, SORTS};
 const MOST_BYTES: usize = 8192;
 
 /// Numbers that can be the answer, for each of `ASKED`.
-fn possible() -> [Vec<usize>; 4] {
+fn possible() -> [Vec<usize>; 5] {
     let but = |most: usize, not: &[usize]| (0..=most).filter(|n| !not.contains(n)).collect();
     [
         but(24, &[1, 23]),
@@ -27,6 +27,7 @@ fn possible() -> [Vec<usize>; 4] {
         (0..=26)
             .filter(|n| !(14..=24).contains(n) && *n != 1)
             .collect(),
+        vec![0, 32, 33, 34],
     ]
 }
 
@@ -54,7 +55,7 @@ fn main() {
     let mut target = Target::new(PathBuf::from(report), format!("fuzz, seed {seed}"));
     let mut kept = corpus_right(&mut target, corpus);
     let seeds = kept.len();
-    target.numbers = Default::default();
+    target.forget();
 
     let mut random = Random::new(seed);
     let mut seen = vec![false; SORTS];

@@ -3,30 +3,44 @@
 use std::path::PathBuf;
 
 use crate::bench::{Answer, Bench};
+use crate::given;
 use crate::input::{self, Asked};
 use crate::maker::S;
 use crate::questions::ask_record;
 use crate::random::Random;
 use crate::reading::{demand3, desk::Desk};
+use crate::writing::desk::{Desk as WritingDesk, Memory};
+use crate::writing::lists::Lent;
+use crate::writing::round_trip::round_trip;
 
 /// Room for any book's doses.
 const ROOM: usize = 585 * 8;
 /// How long one input may take, in seconds.
 const LIMIT: u32 = 20;
 
-/// Who answered: a reading at edition 1, at edition 2, at another, or a look-up.
-pub const ASKED: [&str; 4] = ["edition 1", "edition 2", "other editions", "look-ups"];
+/// Entries times bytes of a package that goes the round trip, at most.
+const ROUND_TRIP: usize = 1 << 18;
+
+/// Who answered: a reading at edition 1, at edition 2, at another, a look-up, a writing.
+#[rustfmt::skip]
+pub const ASKED: [&str; 5] = [
+    "edition 1", "edition 2", "other editions", "look-ups", "writings",
+];
 const LOOK_UP: usize = 3;
-const NUMBERS: usize = 27;
+const WRITING: usize = 4;
+const NUMBERS: usize = 35;
 const PLACES: usize = 256;
 /// How many sorts of answer are told apart.
 pub const SORTS: usize = ASKED.len() * NUMBERS * PLACES;
 
 pub struct Target {
     desk: Desk<'static>,
+    memory: Memory,
+    /// How many packages were written, read and written again.
+    round_trips: usize,
     /// How often each number was the answer, by who answered.
     pub numbers: [[usize; NUMBERS]; ASKED.len()],
-    /// The sorts of answer that the last input got.
+    /// The sorts of answer that the last input got; not those of writings.
     pub sorts: Vec<usize>,
 }
 
@@ -54,26 +68,30 @@ impl Target {
         bench.begins(Box::leak(run.into_boxed_str()));
         Target {
             desk: Desk::new(bench),
-            numbers: Default::default(),
+            memory: Memory::new(),
+            round_trips: 0,
+            numbers: [[0; NUMBERS]; ASKED.len()],
             sorts: Vec::new(),
         }
     }
 
     /// Reads at editions 1 and 2 with room and with the asked buffer, and at the
-    /// asked edition; looks up what is asked and what stands in the index.
+    /// asked edition; looks up what is asked and what stands in the index; writes what
+    /// the input gives.
     /// A difference ends the program.
     pub fn run(&mut self, bytes: &[u8]) -> [Answer; 2] {
         let asked = Asked::of(bytes);
         let package = input::package(bytes);
         self.sorts.clear();
         self.desk.bench.limit(LIMIT);
+        self.desk.bench.counting = true;
         self.desk.bench.package(&package);
 
         let answers = self.desk.both(ROOM, None);
         self.note_both(answers);
         let accepted = answers.iter().filter(|answer| answer.number() == 0);
         let doses = accepted.map(|answer| answer.place()).max().unwrap_or(1);
-        let room = asked.room(doses as usize);
+        let room = asked.room(8 * doses as usize);
         let again = self.desk.both(room, None);
         self.note_both(again);
         if !matches!(asked.edition, 1 | 2) {
@@ -91,17 +109,79 @@ impl Target {
                 self.note(LOOK_UP, answer);
             }
         }
+        self.write_all(&asked, &package);
         answers
+    }
+
+    /// Writes the lists of a package, the same with one thing otherwise, and others.
+    fn write_all(&mut self, asked: &Asked, package: &[u8]) {
+        self.desk.bench.counting = false;
+        let random = &mut Random::new(input::sum(package));
+        let lists = given::of_package(package);
+        let length = self.write(asked, random, &lists.lent());
+        let lent = given::otherwise(lists.clone(), random);
+        self.write(asked, random, &lent);
+        let lent = match random.below(32) {
+            0 => given::many(lists, random),
+            1 | 2 => given::large(lists, length, random),
+            _ => given::slices(package, lists.name, random),
+        };
+        self.write(asked, random, &lent);
+    }
+
+    /// Writes into no buffer, which says how long the package is, and into the asked
+    /// one. What is written is read; half of it goes the round trip.
+    fn write(&mut self, asked: &Asked, random: &mut Random, lent: &Lent) -> usize {
+        let bench = &mut *self.desk.bench;
+        let memory = &mut self.memory;
+        let mut desk = WritingDesk { bench, memory };
+        desk.lend(lent);
+        let (first, _) = desk.write(0, None);
+        let length = first.place() as usize;
+        let (second, buffer) = desk.write(asked.room(length), None);
+        if first.number() == 34 && random.one_in(2) {
+            let lists = given::lists(lent);
+            let entries: usize = lists.entries.iter().map(Vec::len).sum();
+            if entries * length <= ROUND_TRIP {
+                round_trip(&mut desk, random, &lists);
+                self.round_trips += 1;
+            }
+        }
+        if second.number() == 0 {
+            self.read_written(&buffer[..length]);
+        }
+        self.note(WRITING, first);
+        self.note(WRITING, second);
+        length
+    }
+
+    /// A written package passes checks 2 to 13, and 16.
+    fn read_written(&mut self, package: &[u8]) {
+        self.desk.bench.package(package);
+        for answer in self.desk.both(ROOM, None) {
+            if matches!(answer.number(), 2..=13 | 16) {
+                let difference = format!("library {answer}: what it wrote");
+                self.desk.bench.fail(&difference);
+            }
+        }
     }
 
     fn note(&mut self, who: usize, answer: Answer) {
         self.numbers[who][answer.number() as usize] += 1;
-        self.sorts.push(sort(who, answer));
+        if who != WRITING {
+            self.sorts.push(sort(who, answer));
+        }
     }
 
     fn note_both(&mut self, answers: [Answer; 2]) {
         self.note(0, answers[0]);
         self.note(1, answers[1]);
+    }
+
+    /// Counts answers anew.
+    pub fn forget(&mut self) {
+        self.numbers = [[0; NUMBERS]; ASKED.len()];
+        self.round_trips = 0;
     }
 
     /// Single answers that were compared.
@@ -117,7 +197,9 @@ impl Target {
             let seen: Vec<String> = seen.map(|(n, count)| format!("{n}: {count}")).collect();
             lines += &format!("fuzz: answers, {who}: {}\n", seen.join(", "));
         }
-        lines
+        let writings: usize = self.numbers[WRITING].iter().sum();
+        let trips = self.round_trips;
+        lines + &format!("fuzz: {writings} answers to writings, {trips} round trips\n")
     }
 }
 

@@ -102,8 +102,8 @@ fn by_library(parts: &[(*const u8, usize); 5], buffer: &mut [u8]) -> Answer {
     })
 }
 
-pub struct Desk<'a> {
-    pub bench: &'a mut Bench,
+/// What is lent, and where buffers are.
+pub struct Memory {
     fences: Fences,
     lent: Lent,
     parts: [(*const u8, usize); 5],
@@ -112,13 +112,12 @@ pub struct Desk<'a> {
     writings: usize,
 }
 
-impl<'a> Desk<'a> {
-    pub fn new(bench: &'a mut Bench) -> Desk<'a> {
+impl Memory {
+    pub fn new() -> Memory {
         let mut random = Random::new(8);
         let fences = Fences::new();
         let lent = Lent::default();
-        Desk {
-            bench,
+        Memory {
             parts: fences.lend(&lent),
             fences,
             lent,
@@ -126,29 +125,37 @@ impl<'a> Desk<'a> {
             writings: 0,
         }
     }
+}
 
+pub struct Desk<'a> {
+    pub bench: &'a mut Bench,
+    pub memory: &'a mut Memory,
+}
+
+impl Desk<'_> {
     /// What the next writings are made from.
     pub fn lend(&mut self, lent: &Lent) {
         self.bench.case(&lent.to_file());
-        self.parts = self.fences.lend(lent);
-        self.lent = lent.clone();
+        self.memory.parts = self.memory.fences.lend(lent);
+        self.memory.lent = lent.clone();
     }
 
     /// Writes into a buffer of `room` bytes that ends at a page that faults.
     pub fn write(&mut self, room: usize, known: Option<&Outcome>) -> Written {
         self.bench.asks("write", vec![room as u64]);
-        let shift = self.writings % 251;
-        let around = &self.noise[shift..shift + BEFORE + room];
+        let memory = &mut *self.memory;
+        let shift = memory.writings % 251;
+        let around = &memory.noise[shift..shift + BEFORE + room];
         let before = &around[BEFORE..];
 
         let mut reference = before.to_vec();
-        let answer = by_reference(&self.lent, &mut reference);
+        let answer = by_reference(&memory.lent, &mut reference);
         let reference = (answer, reference);
 
-        let memory = self.fences.buffer.last(BEFORE + room);
-        memory.copy_from_slice(around);
-        let answer = by_library(&self.parts, &mut memory[BEFORE..]);
-        let (front, after) = memory.split_at(BEFORE);
+        let fenced = memory.fences.buffer.last(BEFORE + room);
+        fenced.copy_from_slice(around);
+        let answer = by_library(&memory.parts, &mut fenced[BEFORE..]);
+        let (front, after) = fenced.split_at(BEFORE);
 
         let mut wrong = Vec::new();
         if answer != reference.0 {
@@ -176,7 +183,7 @@ impl<'a> Desk<'a> {
                 "library {answer}, reference {reference}{known} ({wrong})"
             ));
         }
-        self.writings += 1;
+        memory.writings += 1;
         self.bench.agree_writing(answer);
         (answer, after.to_vec())
     }

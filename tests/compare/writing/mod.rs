@@ -8,11 +8,12 @@ mod wrong;
 
 use crate::bench::Bench;
 use crate::random::Random;
-use desk::Desk;
+use desk::{Desk, Memory};
 pub use wrong::REASONS;
 
 pub fn all(bench: &mut Bench) {
-    let mut desk = Desk::new(bench);
+    let memory = &mut Memory::new();
+    let mut desk = Desk { bench, memory };
     for (seed, (name, family)) in families::ALL.iter().enumerate() {
         if desk.bench.begins(name) {
             family(&mut desk, &mut Random::new(200 + seed as u64));

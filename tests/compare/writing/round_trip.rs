@@ -18,7 +18,8 @@ pub fn round_trips(desk: &mut Desk, random: &mut Random) {
     }
 }
 
-fn round_trip(desk: &mut Desk, random: &mut Random, given: &Lists) {
+/// Right lists are written, read and written again.
+pub fn round_trip(desk: &mut Desk, random: &mut Random, given: &Lists) {
     let package = write(desk, random, given);
     let read = read(&package).unwrap_or_else(|| desk.bench.fail("no package"));
     let h = (S + structure_size(&package, S)).next_multiple_of(8);
