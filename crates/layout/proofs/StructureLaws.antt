@@ -38,7 +38,8 @@ pub size-index : (size : ℕ) (entries : List ListEntry)
 unfolding indexFrom offsetFor elementSize bytesOf
 size-index size entries = refl
 
-pub size-store : (size : ℕ) (entries : List ListEntry) → storeFrom 0 (sizeEntry size ∷ entries) ≡ bytesOf size ++ storeFrom 4 entries
+pub size-store : (size : ℕ) (entries : List ListEntry)
+    → storeFrom 0 (sizeEntry size ∷ entries) ≡ bytesOf size ++ storeFrom 4 entries
 unfolding storeFrom offsetFor elementSize bytesOf
 size-store size entries = refl
 
@@ -60,7 +61,8 @@ structure-length entries =
     omega arith
 
 pub signature-length : (number : ℕ) (entries : List ListEntry)
-    → length (structureBytes (sizeEntry number ∷ entries)) ≡ 16 + 16 * (length entries + 1) + (4 + length (storeFrom 4 entries))
+    → length (structureBytes (sizeEntry number ∷ entries))
+    ≡ 16 + 16 * (length entries + 1) + (4 + length (storeFrom 4 entries))
 signature-length number entries =
     let a = structure-length (sizeEntry number ∷ entries) in
     let b = ap length (size-store number entries) in

@@ -1,5 +1,5 @@
--- A walk over a lent list that lays its entries out, turn by turn: the row that is left (row-turn), an entry's data and where it goes
--- (bytes-here, start-here, stop-here), the store from there on (store-here, store-length) and its end (end-turn, end-spent).
+-- A walk over a lent list that lays its entries out, turn by turn: the row that is left (row-turn), an entry's data and where
+-- it goes (bytes-here, start-here, stop-here), the store from there on (store-here, store-length) and its end (end-turn, end-spent).
 use Prim.Native.Nat.{ℕ, _+_, _-_, _*_, _≤_, _<_}
 use mathlib.Core.Path.{_≡_, sym, ap, _∙_}
 use mathlib.Core.List.{List, [], _∷_, _++_}

@@ -1,6 +1,6 @@
 -- The entries of a lent list, turn by turn: entries-step, entries-none, and how many there are, entries-total. Their sizes
--- together: sizes-step, sizes-turn, sizes-past, sizes-spent. A part is no longer than what it is a part of: part-short. An entry's 16
--- bytes: record-read, record-past, record-whole.
+-- together: sizes-step, sizes-turn, sizes-past, sizes-spent. A part is no longer than what it is a part of: part-short. An
+-- entry's 16 bytes: record-read, record-past, record-whole.
 use Prim.Native.Nat.{ℕ, zero, suc, _+_, _-_, _*_, _≤_, _<_}
 use mathlib.Core.Path.{_≡_, refl, sym, ap, _∙_}
 use mathlib.Core.List.{List, [], _∷_}
@@ -65,7 +65,8 @@ size-step : (list : List ℕ) (n i : ℕ) → sizesFrom list (suc n) i ≡ sizeA
 unfolding sizesFrom
 size-step list n i = refl
 
-pub sizes-step : (list : List ℕ) (n i : ℕ) → i < n → sizesFrom list (n - i) i ≡ sizeAt list i + sizesFrom list (n - (i + 1)) (i + 1)
+pub sizes-step : (list : List ℕ) (n i : ℕ) → i < n
+    → sizesFrom list (n - i) i ≡ sizeAt list i + sizesFrom list (n - (i + 1)) (i + 1)
 sizes-step list n i l = let k : n - i ≡ suc (n - (i + 1)) = omega arith in rw k (size-step list (n - (i + 1)) i)
 
 size-none : (list : List ℕ) (i : ℕ) → sizesFrom list 0 i ≡ 0

@@ -1,5 +1,5 @@
--- What 32 leaves (lent, room-ready); the plan for each way through decide (reasons-refuse, room-decides); and for callers what a
--- plan says: of a refusal (refused), and of sizes that fit (fitting, listed, bounds).
+-- What 32 leaves (lent, room-ready); the plan for each way through decide (reasons-refuse, room-decides); and for callers
+-- what a plan says: of a refusal (refused), and of sizes that fit (fitting, length-is, put-ready).
 use Prim.Native.Nat.{ℕ, _+_, _*_, _/_, _≤_}
 use mathlib.Core.Path.{_≡_, refl, sym, ap, _∙_}
 use mathlib.Core.List.{List, [], _∷_}
@@ -67,7 +67,8 @@ module _ (name sig sigs head heads : List ℕ) where
       unfolding decided writeCheck
       reasons-refuse h = rw (both-fail (roomCheck (length (writtenOf name sig sigs head heads)) room) (sym p ∙ h))
 
-      pub room-decides : {r : Plan} → v ≡ Pass → r ≡ planned sig sigs head heads room → r ≡ decided name sig sigs head heads room
+      pub room-decides : {r : Plan} → v ≡ Pass → r ≡ planned sig sigs head heads room
+          → r ≡ decided name sig sigs head heads room
       unfolding decided planned writeCheck
       room-decides h q =
           q ∙ sym (rw (both-pass (sym p ∙ h)) (rw (written-length sig sigs head heads name)))

@@ -1,5 +1,5 @@
--- The length of a package that is written (signature-size, header-size, written-length), which is no less than the data lent for
--- it (stores-fit); 33 and 34 for each way through room_check (over-first to fits).
+-- The length of a package that is written (signature-size, header-size, written-length), which is no less than the data lent
+-- for it (stores-fit); 33 and 34 for each way through room_check (over-first to fits).
 use Prim.Native.Nat.{ℕ, zero, suc, _+_, _-_, _*_, _/_, _≤_, _<_}
 use mathlib.Core.Path.{_≡_, refl, sym, ap, _∙_}
 use mathlib.Core.List.{List, [], _∷_, _++_}

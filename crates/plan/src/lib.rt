@@ -30,7 +30,8 @@ pub enum Plan {
 // Up to where the store of a list is filled, from a place on.
 fn store_end(list: &[u8], row: &[u8], start: usize) -> usize
     requires { ⌜ Listed (now list) (now row) × (start ≤ 4) ⌝ }
-    ensures { λ r. ⌜ (r ≡ start + length (storeFrom start (entriesOf (now (list .entry)) (now (row .entry))))) × (r ≤ 2 * packageLimit) ⌝ }
+    ensures { λ r. ⌜ (r ≡ start + length (storeFrom start (entriesOf (now (list .entry)) (now (row .entry)))))
+        × (r ≤ 2 * packageLimit) ⌝ }
 {
     let n = (list.len() / ListRecord::SIZE) as u32;
     let mut at = 0;
@@ -48,7 +49,8 @@ fn store_end(list: &[u8], row: &[u8], start: usize) -> usize
 
 // The sizes of a package with stores of the given sizes.
 fn sizes_with(signature: &[u8], header: &[u8], first: usize, second: usize) -> Sizes
-    requires { ⌜ (length (now signature) / 16 ≤ 512) × (length (now header) / 16 ≤ 512) × (first ≤ 2 * packageLimit) × (second ≤ 2 * packageLimit) ⌝ }
+    requires { ⌜ (length (now signature) / 16 ≤ 512) × (length (now header) / 16 ≤ 512)
+        × (first ≤ 2 * packageLimit) × (second ≤ 2 * packageLimit) ⌝ }
     ensures { λ r. ⌜ r ≡ sizesWith (now (signature .entry)) (now (header .entry)) first second ⌝ }
 {
     let n = signature.len() / ListRecord::SIZE + 1;
@@ -75,7 +77,8 @@ fn room_check(
     requires { ⌜ (length (now signature) / 16 ≤ 512) × (length (now header) / 16 ≤ 512)
         × (sizesFrom (now signature) (length (now signature) / 16) 0 ≡ length (now «signature_data»))
         × (sizesFrom (now header) (length (now header) / 16) 0 ≡ length (now «header_data»)) ⌝ }
-    ensures { λ r. ⌜ r ≡ planned (now (signature .entry)) (now («signature_data» .entry)) (now (header .entry)) (now («header_data» .entry)) room ⌝ }
+    ensures { λ r. ⌜ r ≡ planned (now (signature .entry)) (now («signature_data» .entry)) (now (header .entry))
+        (now («header_data» .entry)) room ⌝ }
 {
     if FileOffset::LIMIT < signature_data.len() {
         return Plan::Refused(33, 0);
@@ -104,7 +107,8 @@ pub fn decide(
     header_data: &[u8],
     room: usize,
 ) -> Plan
-    ensures { λ r. ⌜ r ≡ decided (now (name .entry)) (now (signature .entry)) (now («signature_data» .entry)) (now (header .entry)) (now («header_data» .entry)) room ⌝ }
+    ensures { λ r. ⌜ r ≡ decided (now (name .entry)) (now (signature .entry)) (now («signature_data» .entry))
+        (now (header .entry)) (now («header_data» .entry)) room ⌝ }
 {
     let v = reasons::check(name, signature, signature_data, header, header_data);
     if let Verdict::Fail(number, place) = v {

@@ -1,6 +1,6 @@
--- Stores in a buffer (out-of-room, sets-append, sets-past, behind, at-front); four of them (four-stores, three-stores), and what
--- there is no room for (cut-none, cut-one, cut-two, last-cut, cut-behind); a copy and a fill, turn by turn (copy-turn, copied,
--- fill-turn, filled); numbers in a row (one-number to four-numbers), bytes and zero bytes (run-put, run-past, run-cut); the
+-- Stores in a buffer (out-of-room, sets-append, sets-past, behind, at-front); four of them (four-stores, three-stores), and
+-- what there is no room for (cut-none, cut-one, cut-two, last-cut, cut-behind); a copy and a fill, turn by turn (copy-turn,
+-- copied, fill-turn, filled); numbers in a row (one-number to four-numbers), bytes and zero bytes (run-put, run-past, run-cut); the
 -- length of what is put (length-bytes, length-four).
 use Prim.Native.Nat.{ℕ, zero, suc, _+_, _-_, _*_, _/_, _%_, _≤_, _<_}
 use mathlib.Core.Path.{_≡_, refl, sym, ap, _∙_}
@@ -50,7 +50,8 @@ three-stores out at a b c p q r = let f : at + 2 ≡ suc (suc at) = omega arith 
 pub cut-none : (out : List ℕ) (at : ℕ) (xs : List ℕ) → length out ≤ at → out ≡ sets out at xs
 cut-none out at xs h = sym (sets-past out at xs h)
 
-pub cut-one : (out : List ℕ) (at a : ℕ) (xs : List ℕ) {o : List ℕ} → o ≡ set out at a → length out - at < 2 → o ≡ sets out at (a ∷ xs)
+pub cut-one : (out : List ℕ) (at a : ℕ) (xs : List ℕ) {o : List ℕ} → o ≡ set out at a → length out - at < 2
+    → o ≡ sets out at (a ∷ xs)
 cut-one out at a xs p h =
     let k = length-set out at a in
     p ∙ sym (sets-past (set out at a) (suc at) xs (omega arith))

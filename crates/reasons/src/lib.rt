@@ -171,7 +171,8 @@ pub fn check(
     header: &[u8],
     header_data: &[u8],
 ) -> Verdict
-    ensures { λ r. ⌜ r ≡ reasons (now (name .entry)) (now (signature .entry)) (now («signature_data» .entry)) (now (header .entry)) (now («header_data» .entry)) ⌝ }
+    ensures { λ r. ⌜ r ≡ reasons (now (name .entry)) (now (signature .entry)) (now («signature_data» .entry))
+        (now (header .entry)) (now («header_data» .entry)) ⌝ }
 {
     let first = form_check(signature, signature_data);
     if let Verdict::Fail(number, place) = first {

@@ -1,5 +1,5 @@
--- Request 1: the smallest package that is written, byte for byte. Its name is "a", the caller's signature list is empty, and the
--- header's is one byte of bin, 7, under the tag 1.
+-- Request 1: the smallest package that is written, byte for byte. Its name is "a", the caller's signature list is empty, and
+-- the header's is one byte of bin, 7, under the tag 1.
 use Prim.Native.Nat.{ℕ}
 use mathlib.Core.List.{List, [], _∷_, _++_}
 use mathlib.Core.Bool.{Bool}

@@ -48,7 +48,8 @@ pub extern "C" fn station_write(
     header_data: &[u8],
     out: &mut [u8],
 ) -> u64
-    ensures { λ r. ⌜ StationWrite (now (name .entry)) (now (signature .entry)) (now («signature_data» .entry)) (now (header .entry)) (now («header_data» .entry)) (now (out .entry)) r (now (out .exit)) ⌝ }
+    ensures { λ r. ⌜ StationWrite (now (name .entry)) (now (signature .entry)) (now («signature_data» .entry))
+        (now (header .entry)) (now («header_data» .entry)) (now (out .entry)) r (now (out .exit)) ⌝ }
 {
     writer::write(name, signature, signature_data, header, header_data, out).packed()
 }

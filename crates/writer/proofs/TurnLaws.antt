@@ -1,5 +1,5 @@
--- A walk over a lent list that puts its entries, turn by turn: the index (index-turn, index-spent), and the store by runs of data
--- (run-turn, gap-turn, store-spent, and the room that is left: run-next, gap-next).
+-- A walk over a lent list that puts its entries, turn by turn: the index (index-turn, index-spent), and the store by runs of
+-- data (run-turn, gap-turn, store-spent, and the room that is left: run-next, gap-next).
 use Prim.Native.Nat.{ℕ, _+_, _-_, _*_, _≤_, _<_}
 use mathlib.Core.Path.{_≡_, refl, sym, ap, _∙_}
 use mathlib.Core.List.{List, [], _∷_, _++_, append-assoc, append-nil}
@@ -29,10 +29,18 @@ module _ (list row : List ℕ) (n i at filled : ℕ) (w : 16 * n ≤ length list
       let four = fourBytes (e .tag) (e .ty) offset (e .count) in
       let a = length-four (e .tag) (e .ty) offset (e .count) in
       let k : place + 16 * (i + 1) ≡ place + 16 * i + length four = omega arith in
-      let here : recordBytes (recordOf (entryAt list row i at) offset) ≡ four = rw (turn.record-here list row n i at filled w f l q) in
+      let here : recordBytes (recordOf (entryAt list row i at) offset) ≡ four =
+      rw (turn.record-here list row n i at filled w f l q) in
       inv
       ∙ rw (entries-step list row n i at l) (rw (index-step filled (entryAt list row i at) _)
-      (rw (turn.stop-here list row n i at filled w f l q o, turn.start-here list row n i at filled w f l q o, turn.next list row n i at filled w f l q, here, k, g)
+      (rw (
+        turn.stop-here list row n i at filled w f l q o,
+        turn.start-here list row n i at filled w f l q o,
+        turn.next list row n i at filled w f l q,
+        here,
+        k,
+        g,
+      )
       (sets-append out (place + 16 * i) four
       (indexFrom (offset + e .size) (entriesFrom list row (n - (i + 1)) (i + 1) (at + e .size))))))
 

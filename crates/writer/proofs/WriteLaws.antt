@@ -13,7 +13,8 @@ use Rattle.plan.specs.Sizes.{decided}
 use Rattle.plan.proofs.PlanLaws.{refused, fitting, length-is}
 use Rattle.writer.specs.Writing.{Wrote}
 
-module _ (name sig sigs head heads before : List ℕ) {r : Plan} (q : r ≡ decided name sig sigs head heads (length before)) where
+module _ (name sig sigs head heads before : List ℕ) {r : Plan}
+    (q : r ≡ decided name sig sigs head heads (length before)) where
   pub refuses : {number place : ℕ} → r ≡ plan.Refused number place
       → Wrote name sig sigs head heads before (answer.Refused number place) before
   refuses h =

@@ -31,7 +31,9 @@ fn put_package(
     requires { ⌜ Listed (now signature) (now «signature_data») × Listed (now header) (now «header_data»)
         × (sizes ≡ sizesOf (now signature) (now «signature_data») (now header) (now «header_data»))
         × (sizes .length ≤ length (now out)) × (sizes .length ≤ packageLimit) ⌝ }
-    ensures { λ r. ⌜ now (out .exit) ≡ sets (now (out .entry)) 0 (writtenOf (now (name .entry)) (now (signature .entry)) (now («signature_data» .entry)) (now (header .entry)) (now («header_data» .entry))) ⌝ }
+    ensures { λ r. ⌜ now (out .exit) ≡ sets (now (out .entry)) 0
+        (writtenOf (now (name .entry)) (now (signature .entry)) (now («signature_data» .entry))
+        (now (header .entry)) (now («header_data» .entry))) ⌝ }
 {
     let first = sizes.signature as usize;
     let start = sizes.start as usize;
@@ -55,7 +57,8 @@ pub fn write(
     header_data: &[u8],
     out: &mut [u8],
 ) -> Answer
-    ensures { λ r. ⌜ Wrote (now (name .entry)) (now (signature .entry)) (now («signature_data» .entry)) (now (header .entry)) (now («header_data» .entry)) (now (out .entry)) r (now (out .exit)) ⌝ }
+    ensures { λ r. ⌜ Wrote (now (name .entry)) (now (signature .entry)) (now («signature_data» .entry))
+        (now (header .entry)) (now («header_data» .entry)) (now (out .entry)) r (now (out .exit)) ⌝ }
 {
     let found = plan::decide(
         name,

@@ -15,8 +15,10 @@ use lists::ListRecord;
 
 // Puts a list's index records at a place, the store being filled up to `start`.
 fn put_index(out: &mut [u8], place: usize, start: usize, list: &[u8], row: &[u8])
-    requires { ⌜ Listed (now list) (now row) × (start ≤ 4) × (place + 16 * (length (now list) / 16) ≤ length (now out)) ⌝ }
-    ensures { λ r. ⌜ now (out .exit) ≡ sets (now (out .entry)) place (indexFrom start (entriesOf (now (list .entry)) (now (row .entry)))) ⌝ }
+    requires { ⌜ Listed (now list) (now row) × (start ≤ 4)
+        × (place + 16 * (length (now list) / 16) ≤ length (now out)) ⌝ }
+    ensures { λ r. ⌜ now (out .exit) ≡ sets (now (out .entry)) place
+        (indexFrom start (entriesOf (now (list .entry)) (now (row .entry)))) ⌝ }
 {
     let n = (list.len() / ListRecord::SIZE) as u32;
     let mut at = 0;
@@ -36,8 +38,10 @@ fn put_index(out: &mut [u8], place: usize, start: usize, list: &[u8], row: &[u8]
 // Puts a list's data at a place, with zero bytes for alignment, the store being filled up to `start`. Data with no zero bytes
 // between is put in one run, from `from` of the row on.
 fn put_store(out: &mut [u8], place: usize, start: usize, list: &[u8], row: &[u8])
-    requires { ⌜ Listed (now list) (now row) × (start ≤ 4) × (place + length (storeFrom start (entriesOf (now list) (now row))) ≤ length (now out)) ⌝ }
-    ensures { λ r. ⌜ now (out .exit) ≡ sets (now (out .entry)) place (storeFrom start (entriesOf (now (list .entry)) (now (row .entry)))) ⌝ }
+    requires { ⌜ Listed (now list) (now row) × (start ≤ 4)
+        × (place + length (storeFrom start (entriesOf (now list) (now row))) ≤ length (now out)) ⌝ }
+    ensures { λ r. ⌜ now (out .exit) ≡ sets (now (out .entry)) place
+        (storeFrom start (entriesOf (now (list .entry)) (now (row .entry)))) ⌝ }
 {
     let n = (list.len() / ListRecord::SIZE) as u32;
     let mut to = place;
@@ -68,7 +72,8 @@ fn put_store(out: &mut [u8], place: usize, start: usize, list: &[u8], row: &[u8]
 pub(crate) fn put_structure(out: &mut [u8], place: usize, list: &[u8], row: &[u8], size: usize)
     requires { ⌜ Listed (now list) (now row) × (size ≡ headerStore (now list) (now row))
         × (place + structureSize (length (now list) / 16) size ≤ length (now out)) × (size ≤ packageLimit) ⌝ }
-    ensures { λ r. ⌜ now (out .exit) ≡ sets (now (out .entry)) place (structureBytes (entriesOf (now (list .entry)) (now (row .entry)))) ⌝ }
+    ensures { λ r. ⌜ now (out .exit) ≡ sets (now (out .entry)) place
+        (structureBytes (entriesOf (now (list .entry)) (now (row .entry)))) ⌝ }
 {
     let n = list.len() / ListRecord::SIZE;
     put::numbers(out, place, 0x8EAD_E801, 0, n as u32, size as u32);
@@ -88,7 +93,8 @@ pub(crate) fn put_signature(
 )
     requires { ⌜ Listed (now list) (now row) × (size ≡ signatureStore (now list) (now row))
         × (place + structureSize (length (now list) / 16 + 1) size ≤ length (now out)) × (size ≤ packageLimit) ⌝ }
-    ensures { λ r. ⌜ now (out .exit) ≡ sets (now (out .entry)) place (structureBytes (sizeEntry number ∷ entriesOf (now (list .entry)) (now (row .entry)))) ⌝ }
+    ensures { λ r. ⌜ now (out .exit) ≡ sets (now (out .entry)) place
+        (structureBytes (sizeEntry number ∷ entriesOf (now (list .entry)) (now (row .entry)))) ⌝ }
 {
     let n = list.len() / ListRecord::SIZE;
     put::numbers(out, place, 0x8EAD_E801, 0, n as u32 + 1, size as u32);

@@ -10,7 +10,8 @@ use Rattle.put.proofs.bytes.Statement.{statement}
 use Rattle.put.proofs.bytes.Tie as tie
 
 abbrev Inv-loop : tie.InvT-loop
-Inv-loop out₀ at from n i₀ out i = (i ≤ n) × (sets out₀ at from ≡ sets out (at + i) (drop i from)) × (length out ≡ length out₀)
+Inv-loop out₀ at from n i₀ out i = (i ≤ n) × (sets out₀ at from ≡ sets out (at + i) (drop i from))
+    × (length out ≡ length out₀)
 
 abbrev μ-loop : tie.MeasureT-loop
 μ-loop out₀ at from n i₀ out i = n - i

@@ -11,7 +11,8 @@ use Rattle.put.proofs.zeros.Statement.{statement}
 use Rattle.put.proofs.zeros.Tie as tie
 
 abbrev Inv-loop : tie.InvT-loop
-Inv-loop out₀ at n n' i₀ out i = (i ≤ n') × (sets out₀ at (zeros n) ≡ sets out (at + i) (zeros (n - i))) × (length out ≡ length out₀)
+Inv-loop out₀ at n n' i₀ out i = (i ≤ n') × (sets out₀ at (zeros n) ≡ sets out (at + i) (zeros (n - i)))
+    × (length out ≡ length out₀)
 
 abbrev μ-loop : tie.MeasureT-loop
 μ-loop out₀ at n n' i₀ out i = n' - i

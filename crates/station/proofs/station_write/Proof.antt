@@ -15,7 +15,9 @@ same-length : tie.Need-same-length
 same-length c = search needs
 
 returns : tie.Need-returns
-returns c = record { answered = c .packed .ensures ∙ ap packedOf (c .before .before .before .write .ensures .answered); buffer = c .before .before .before .write .ensures .left }
+returns c =
+    let call = c .before .before .before in
+    record { answered = c .packed .ensures ∙ ap packedOf (call .write .ensures .answered); buffer = call .write .ensures .left }
 
 pub station-write-spec : {M : Type 1} → statement M
 station-write-spec = tie.close (tie.spec write-requires packed-requires same-length returns)

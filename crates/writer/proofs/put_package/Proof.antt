@@ -33,7 +33,8 @@ put-lead-requires c κs = search needs
 
 put-signature-requires : tie.Need-put-signature-requires
 put-signature-requires c κs =
-    let start = c .before .before .before .before .before .before .before .before .before .before .before .before .before .before in
+    let lead = c .before .before .before .before .before .before .before in
+    let start = lead .before .before .before .before .before .before .before in
     laws.signature-ready _ _ _ _ (start .pre .2) (start .pre .3) (start .pre .4) (search needs) (start .pre .0)
 
 sub-zeros : tie.Need-sub-zeros
@@ -47,7 +48,9 @@ cast-put-structure c = search needs
 
 put-structure-requires : tie.Need-put-structure-requires
 put-structure-requires c κs =
-    let start = c .before .before .before .before .before .before .before .before .before .before .before .before .before .before .before .before .before .before .before .before .before .before .before in
+    let gap = c .before .before .before .before .before .before .before in
+    let lead = gap .before .before .before .before .before .before .before .before in
+    let start = lead .before .before .before .before .before .before .before .before in
     laws.header-ready _ _ _ _ (start .pre .2) (start .pre .3) (start .pre .4) (search needs) (start .pre .1)
 
 same-length : tie.Need-same-length
@@ -59,7 +62,7 @@ returns c =
     let o3 = o4 .before .before .before .before .before in
     let o2 = o3 .before .before .before .before in
     let o1 = o2 .before .before .before .before in
-    let start = c .before .before .before .before .before .before .before .before .before .before .before .before .before .before .before .before .before .before .before .before .before .before .before .before .before .before in
+    let start = o1 .before .before .before .before .before .before .before .before .before .before .before in
     laws.package-put _ _ _ _ (start .pre .2) (start .args .out .now) (start .args .name .now)
     (o1 .put-lead .ensures) (o2 .put-signature .ensures) (o3 .zeros .ensures) (o4 .put-structure .ensures)
 

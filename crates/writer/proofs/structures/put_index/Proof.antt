@@ -13,7 +13,10 @@ use Rattle.writer.proofs.structures.put_index.Statement.{statement}
 use Rattle.writer.proofs.structures.put_index.Tie as tie
 
 abbrev Inv-loop : tie.InvT-loop
-Inv-loop out₀ place start list row n at₀ filled₀ i₀ out at filled i = (i ≤ n) × (16 * n ≤ length list) × (at + sizesFrom list (n - i) i ≡ length row) × (filled ≤ 4 + at + 3 * i) × (sets out₀ place (indexFrom start (entriesFrom list row n 0 0)) ≡ sets out (place + 16 * i) (indexFrom filled (entriesFrom list row (n - i) i at))) × (length out ≡ length out₀)
+Inv-loop out₀ place start list row n at₀ filled₀ i₀ out at filled i = (i ≤ n) × (16 * n ≤ length list)
+    × (at + sizesFrom list (n - i) i ≡ length row) × (filled ≤ 4 + at + 3 * i)
+    × (sets out₀ place (indexFrom start (entriesFrom list row n 0 0))
+    ≡ sets out (place + 16 * i) (indexFrom filled (entriesFrom list row (n - i) i at))) × (length out ≡ length out₀)
 
 abbrev μ-loop : tie.MeasureT-loop
 μ-loop out₀ place start list row n at₀ filled₀ i₀ out at filled i = n - i
@@ -22,7 +25,14 @@ cast-n : tie.Need-cast-n Inv-loop μ-loop
 cast-n c = search needs
 
 loop-holds : tie.Need-loop-holds Inv-loop μ-loop
-loop-holds c = (search needs, search needs, simp sub-zero (search needs), search needs, simp (sub-zero, add-zero, mul-zero), search needs)
+loop-holds c = (
+  search needs,
+  search needs,
+  simp sub-zero (search needs),
+  search needs,
+  simp (sub-zero, add-zero, mul-zero),
+  search needs,
+)
 
 entry-requires : tie.Need-entry-requires Inv-loop μ-loop
 entry-requires c κs = search needs

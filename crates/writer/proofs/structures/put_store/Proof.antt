@@ -14,7 +14,12 @@ use Rattle.writer.proofs.structures.put_store.Statement.{statement}
 use Rattle.writer.proofs.structures.put_store.Tie as tie
 
 abbrev Inv-loop : tie.InvT-loop
-Inv-loop out₀ place start list row n to₀ from₀ at₀ filled₀ i₀ out to from at filled i = (i ≤ n) × (16 * n ≤ length list) × (at + sizesFrom list (n - i) i ≡ length row) × (filled ≤ 4 + at + 3 * i) × (from ≤ at) × (to + (at - from) + length (storeFrom filled (entriesFrom list row (n - i) i at)) ≤ length out₀) × (sets out₀ place (storeFrom start (entriesFrom list row n 0 0)) ≡ sets out to (take (at - from) (drop from row) ++ storeFrom filled (entriesFrom list row (n - i) i at))) × (length out ≡ length out₀)
+Inv-loop out₀ place start list row n to₀ from₀ at₀ filled₀ i₀ out to from at filled i = (i ≤ n) × (16 * n ≤ length list)
+    × (at + sizesFrom list (n - i) i ≡ length row) × (filled ≤ 4 + at + 3 * i) × (from ≤ at)
+    × (to + (at - from) + length (storeFrom filled (entriesFrom list row (n - i) i at)) ≤ length out₀)
+    × (sets out₀ place (storeFrom start (entriesFrom list row n 0 0))
+    ≡ sets out to (take (at - from) (drop from row) ++ storeFrom filled (entriesFrom list row (n - i) i at)))
+    × (length out ≡ length out₀)
 
 abbrev μ-loop : tie.MeasureT-loop
 μ-loop out₀ place start list row n to₀ from₀ at₀ filled₀ i₀ out to from at filled i = n - i
@@ -23,7 +28,16 @@ cast-n : tie.Need-cast-n Inv-loop μ-loop
 cast-n c = search needs
 
 loop-holds : tie.Need-loop-holds Inv-loop μ-loop
-loop-holds c = (search needs, search needs, simp sub-zero (search needs), search needs, search needs, simp sub-zero (search needs), simp sub-zero, search needs)
+loop-holds c = (
+  search needs,
+  search needs,
+  simp sub-zero (search needs),
+  search needs,
+  search needs,
+  simp sub-zero (search needs),
+  simp sub-zero,
+  search needs,
+)
 
 entry-requires : tie.Need-entry-requires Inv-loop μ-loop
 entry-requires c κs = search needs
@@ -71,13 +85,31 @@ loop-less : tie.Need-loop-less Inv-loop μ-loop
 loop-less c = search needs
 
 loop-again : tie.Need-loop-again Inv-loop μ-loop
-loop-again c = (search needs, search needs, search turn.row-turn, search needs, search needs, search laws.gap-next, search laws.gap-turn, search needs)
+loop-again c = (
+  search needs,
+  search needs,
+  search turn.row-turn,
+  search needs,
+  search needs,
+  search laws.gap-next,
+  search laws.gap-turn,
+  search needs,
+)
 
 loop-less-2 : tie.Need-loop-less-2 Inv-loop μ-loop
 loop-less-2 c = search needs
 
 loop-again-2 : tie.Need-loop-again-2 Inv-loop μ-loop
-loop-again-2 c = (search needs, search needs, search turn.row-turn, search needs, search needs, search laws.run-next, search laws.run-turn, search needs)
+loop-again-2 c = (
+  search needs,
+  search needs,
+  search turn.row-turn,
+  search needs,
+  search needs,
+  search laws.run-next,
+  search laws.run-turn,
+  search needs,
+)
 
 sub-part : tie.Need-sub-part Inv-loop μ-loop
 sub-part c = search needs
