@@ -1,11 +1,11 @@
 -- The entries of a lent list, turn by turn: entries-step, entries-none, and how many there are, entries-total. Their sizes
--- together: sizes-step, sizes-turn, sizes-past, sizes-spent. A part is no longer than what it is a part of: part-short. An
--- entry's 16 bytes: record-read, record-past, record-whole.
+-- together: sizes-step, sizes-turn, sizes-past, sizes-spent. An entry's 16
+-- bytes: record-read, record-past, record-whole.
 use Prim.Native.Nat.{ℕ, zero, suc, _+_, _-_, _*_, _≤_, _<_}
 use mathlib.Core.Path.{_≡_, refl, sym, ap, _∙_}
 use mathlib.Core.List.{List, [], _∷_}
 use mathlib.Core.Bool.{Bool, true, false}
-use lib.ListN.{length, take, drop, length-take, length-drop}
+use lib.ListN.{length}
 use lib.Dec.{eqb}
 use native.Mathlib.Omega.{arith}
 use borrow.Author.Tests.{eq-eqb, ne-eqb, eqb-true, eqb-false, le-leb, lt-leb}
@@ -37,12 +37,6 @@ module _ (list row : List ℕ) where
   unfolding entriesFrom
   entries-total zero i at = refl
   entries-total (suc n) i at = ap suc (entries-total n (i + 1) (at + sizeAt list i))
-
-pub part-short : (s : List ℕ) (at size : ℕ) {bytes : List ℕ} → bytes ≡ take size (drop at s) → length bytes ≤ length s
-part-short s at size h =
-    let e = ap length h ∙ length-take size (drop at s) in
-    let g = length-drop at s in
-    omega arith
 
 -- an entry's 16 bytes, which the list has or has not
 pub record-read : (list : List ℕ) (i : ℕ) {tag ty count size : ℕ} → tag ≡ be32At list (16 * i) → ty ≡ be32At list (16 * i + 4)

@@ -1,7 +1,7 @@
 // A list of entries as it is lent: 16 bytes an entry, and the entries' data in a row.
 ghost use mathlib.Core.Path.{_≡_};
-ghost use Prim.Native.Nat.{_+_, _/_, _≤_};
-ghost use lib.ListN.{length, take, drop};
+ghost use Prim.Native.Nat.{_+_, _≤_};
+ghost use lib.ListN.{length};
 ghost use Rattle.be.specs.Numbers.{be32At};
 ghost use Rattle.lists.specs.Lists.{recordShown, isWhole, sizesMeet};
 
@@ -15,13 +15,6 @@ pub struct ListRecord {
 
 impl ListRecord {
     pub const SIZE: usize = 16;
-}
-
-// How many entries a list has.
-pub fn count(list: &[u8]) -> usize
-    ensures { λ r. ⌜ r ≡ length (now (list .entry)) / 16 ⌝ }
-{
-    list.len() / ListRecord::SIZE
 }
 
 // The 32-bit number at a place of a list that has it whole.
@@ -51,13 +44,6 @@ pub fn entry(list: &[u8], i: u32) -> ListRecord
         count: number(list, at + 8),
         size: number(list, at + 12),
     }
-}
-
-// The data of an entry: `size` bytes from a place of the row.
-pub fn bytes(row: &[u8], at: usize, size: u32) -> &[u8]
-    ensures { λ r. ⌜ (now r ≡ take size (drop at (now (row .entry)))) × (length (now r) ≤ length (now (row .entry))) ⌝ }
-{
-    be::part(row, at, size as usize)
 }
 
 // Whether a list is whole entries.

@@ -10,8 +10,7 @@ use Rattle.put.specs.Puts.{bytesOf}
 use Rattle.book.specs.Book.{doseAt}
 use Rattle.book.proofs.DoseLaws.{oxide-joined, milligrams-joined}
 use Rattle.buffer.specs.Buffer.{numbersOf}
-use Rattle.octets.specs.Octets.{bytesPerNumber, numberBytes}
-use Rattle.octets.proofs.OctetLaws.{eight-bytes}
+use Rattle.octets.specs.Octets.{numberBytes}
 
 oxide-bytes : (a b : ℕ) → a < 256 → b < 256 → bytesOf (a * 256 + b) ≡ 0 ∷ 0 ∷ a ∷ b ∷ []
 unfolding bytesOf
@@ -33,15 +32,12 @@ milligrams-bytes a b c d p q r s =
     let k₄ : n % 256 ≡ d = omega arith in
     rw (k₁, k₂, k₃, k₄)
 
--- o₁ and o₂ are the buffer after four bytes, and after eight
-pub copied : (b : List ℕ) → ((k : ℕ) → getD b k 0 < 256) → (out : List ℕ) (at i : ℕ) {o₁ o₂ : List ℕ}
-    → o₁ ≡ sets out i (0 ∷ 0 ∷ getD b (at + 1) 0 ∷ getD b (at + 2) 0 ∷ [])
-    → o₂ ≡ sets o₁ (i + bytesPerNumber)
-    (getD b (at + 3) 0 ∷ getD b (at + 4) 0 ∷ getD b (at + 5) 0 ∷ getD b (at + 6) 0 ∷ [])
-    → o₂ ≡ sets out i (numberBytes (numbersOf (doseAt b at ∷ [])))
-copied b byte out at i {o₁} p q =
-    eight-bytes out i (doseAt b at) (p ∙ ap (sets out i) (sym oxide))
-    (q ∙ ap (sets o₁ (i + bytesPerNumber)) (sym milligrams))
+pub copied : (b : List ℕ) → ((k : ℕ) → getD b k 0 < 256) → (out : List ℕ) (at i : ℕ) {o : List ℕ}
+    → o ≡ sets out i (0 ∷ 0 ∷ getD b (at + 1) 0 ∷ getD b (at + 2) 0 ∷ getD b (at + 3) 0 ∷ getD b (at + 4) 0
+    ∷ getD b (at + 5) 0 ∷ getD b (at + 6) 0 ∷ [])
+    → o ≡ sets out i (numberBytes (numbersOf (doseAt b at ∷ [])))
+unfolding numbersOf numberBytes
+copied b byte out at i p = p ∙ rw (oxide, milligrams)
   where
     oxide : bytesOf (doseAt b at .oxide .0) ≡ 0 ∷ 0 ∷ getD b (at + 1) 0 ∷ getD b (at + 2) 0 ∷ []
     oxide =

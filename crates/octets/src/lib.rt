@@ -6,7 +6,7 @@ ghost use lib.ListN.{length};
 ghost use lib.Seq.{sets};
 ghost use Rattle.book.specs.Book.{doseAt};
 ghost use Rattle.buffer.specs.Buffer.{numbersOf};
-ghost use Rattle.octets.specs.Octets.{bytesPerNumber, bytesPerDose, numberBytes, withDoseBytes};
+ghost use Rattle.octets.specs.Octets.{bytesPerDose, numberBytes, withDoseBytes};
 use book::Dose;
 use book::body_size;
 use book::is_weighed;
@@ -14,28 +14,20 @@ use book::is_weighed;
 // How many bytes a number takes in a buffer of bytes.
 pub const NUMBER_BYTES: usize = 4;
 
-// Puts four bytes from a place of the buffer on, which has them.
-fn put_4(out: &mut [u8], i: usize, a: u8, b: u8, c: u8, d: u8)
-    requires { ⌜ i + bytesPerNumber ≤ length (now out) ⌝ }
-    ensures { λ r. ⌜ now (out .exit) ≡ sets (now (out .entry)) i (a ∷ b ∷ c ∷ d ∷ []) ⌝ }
-{
-    out[i] = a;
-    out[i + 1] = b;
-    out[i + 2] = c;
-    out[i + 3] = d;
-}
-
-// Puts the eight bytes of the dose at a place of a book from a place of the buffer on, where book and buffer have them:
-// two zero bytes, and the six that the body of its record begins with.
+// Puts the eight bytes of the dose at a place of a book, which has them, from a place of the buffer on, as far as that has
+// them: two zero bytes, and the six that the body of its record begins with.
 fn put_body(out: &mut [u8], i: usize, book: &[u8], at: usize)
-    requires { ⌜ (i + bytesPerDose ≤ length (now out)) × (at + 7 ≤ length (now book)) ⌝ }
+    requires { ⌜ at + 7 ≤ length (now book) ⌝ }
     ensures { λ r. ⌜ now (out .exit)
         ≡ sets (now (out .entry)) i (numberBytes (numbersOf (doseAt (now (book .entry)) at ∷ []))) ⌝ }
 {
-    put_4(out, i, 0, 0, book[at + 1], book[at + 2]);
-    put_4(
+    put::eight(
         out,
-        i + NUMBER_BYTES,
+        i,
+        0,
+        0,
+        book[at + 1],
+        book[at + 2],
         book[at + 3],
         book[at + 4],
         book[at + 5],
@@ -49,14 +41,11 @@ fn put_dose_bytes(out: &mut [u8], i: usize, book: &[u8], at: usize)
     ensures { λ r. ⌜ now (out .exit)
         ≡ sets (now (out .entry)) i (numberBytes (numbersOf (doseAt (now (book .entry)) at ∷ []))) ⌝ }
 {
-    let end = i + Dose::BYTES;
     let len = book.len();
-    if end <= out.len() {
-        if 7 <= len {
-            if at <= len - 7 {
-                put_body(out, i, book, at);
-                return;
-            }
+    if 7 <= len {
+        if at <= len - 7 {
+            put_body(out, i, book, at);
+            return;
         }
     }
     let dose = Dose::at(book, at);

@@ -92,11 +92,11 @@ next : (own : Bool) (list : List ℕ) (i : ℕ) → be32At list (16 * i) ∷ tag
 unfolding tagsBefore
 next own list i = rw (add-one i)
 
-pub entries-begun : (own : Bool) (list row : List ℕ) {n : ℕ} → n ≡ length list / 16
-    → entriesReasons (ownTags own) (entriesOf list row)
+pub entries-begun : (own : Bool) (list row : List ℕ) (n : ℕ)
+    → entriesReasons (ownTags own) (entriesFrom list row n 0 0)
     ≡ entriesReasons (tagsBefore own list 0) (entriesFrom list row (n - 0) 0 0)
 unfolding tagsBefore
-entries-begun own list row h = rw (sub-zero, h)
+entries-begun own list row n = rw sub-zero
 
 -- in the shape of what is known in a turn: v is what the run began with, e and bytes are entry i, r is what it found
 module _ (own : Bool) (list row : List ℕ) (n i at : ℕ) {v : Verdict}

@@ -93,17 +93,18 @@ fn entries_check(list: &[u8], row: &[u8], own: bool) -> Verdict
     requires { ⌜ length (now list) / 16 ≤ 512 ⌝ }
     ensures { λ r. ⌜ r ≡ entriesReasons (ownTags own) (entriesOf (now (list .entry)) (now (row .entry))) ⌝ }
 {
-    let n = lists::count(list) as u32;
+    let n = (list.len() / ListRecord::SIZE) as u32;
     let mut at = 0;
     let mut i = 0;
     while i < n {
         let e = lists::entry(list, i);
-        let bytes = lists::bytes(row, at, e.size);
+        let size = e.size as usize;
+        let bytes = be::part(row, at, size);
         let v = entry_check(list, own, i, e, bytes);
         if let Verdict::Fail(number, place) = v {
             return Verdict::Fail(number, place);
         }
-        at += e.size as usize;
+        at += size;
         i += 1;
     }
     Verdict::Pass
@@ -113,7 +114,7 @@ fn entries_check(list: &[u8], row: &[u8], own: bool) -> Verdict
 fn signature_check(list: &[u8], row: &[u8]) -> Verdict
     ensures { λ r. ⌜ r ≡ listReasons (sizeEntry 0 ∷ entriesOf (now (list .entry)) (now (row .entry))) ⌝ }
 {
-    if HeaderRecord::NINDEX_LIMIT as usize <= lists::count(list) {
+    if HeaderRecord::NINDEX_LIMIT as usize <= list.len() / ListRecord::SIZE {
         return Verdict::Fail(32, 0);
     }
     entries_check(list, row, true)
@@ -123,7 +124,7 @@ fn signature_check(list: &[u8], row: &[u8]) -> Verdict
 fn header_check(list: &[u8], row: &[u8]) -> Verdict
     ensures { λ r. ⌜ r ≡ listReasons (entriesOf (now (list .entry)) (now (row .entry))) ⌝ }
 {
-    let n = lists::count(list);
+    let n = list.len() / ListRecord::SIZE;
     if n < 1 {
         return Verdict::Fail(32, 0);
     }

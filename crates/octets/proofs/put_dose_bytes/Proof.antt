@@ -1,4 +1,4 @@
--- From the body where book and buffer have it whole; else the two numbers, one behind the other. Assumes nothing.
+-- From the body where the book has it whole; else the two numbers, one behind the other. Assumes nothing.
 use mathlib.Core.List.{List}
 use Rattle.book.specs.declared.dose.Dose.{Dose}
 use Rattle.buffer.specs.Buffer.{numbersOf}
@@ -8,9 +8,6 @@ use Rattle.octets.proofs.OctetLaws as laws
 use borrow.Author.Needs.{needs}
 use Rattle.octets.proofs.put_dose_bytes.Statement.{statement}
 use Rattle.octets.proofs.put_dose_bytes.Tie as tie
-
-add-end : tie.Need-add-end
-add-end c = search needs
 
 put-body-requires : tie.Need-put-body-requires
 put-body-requires c κs = search needs
@@ -46,7 +43,6 @@ pub put-dose-bytes-spec : {M : Type 1} → statement M
 put-dose-bytes-spec =
     tie.close
     (tie.spec
-    add-end
     put-body-requires
     same-length
     returns

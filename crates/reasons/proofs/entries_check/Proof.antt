@@ -2,23 +2,20 @@
 use Prim.Native.Nat.{_≤_, _-_, _*_}
 use mathlib.Core.Path.{_≡_}
 use lib.ListN.{length}
-use borrow.Author.Needs.{needs}
-use Rattle.lists.specs.Lists.{entriesFrom, entriesOf}
+use Rattle.lists.specs.Lists.{entriesFrom}
 use Rattle.reasons.specs.Reasons.{entriesReasons, ownTags, tagsBefore}
 use Rattle.reasons.proofs.ReasonLaws as laws
+use borrow.Author.Needs.{needs}
 use Rattle.reasons.proofs.entries_check.Statement.{statement}
 use Rattle.reasons.proofs.entries_check.Tie as tie
 
 abbrev Inv-loop : tie.InvT-loop
 Inv-loop list row own n at₀ i₀ at i = (i ≤ n) × (16 * n ≤ length list) × (at ≤ 4294967295 * i)
-    × (entriesReasons (ownTags own) (entriesOf list row)
+    × (entriesReasons (ownTags own) (entriesFrom list row n 0 0)
     ≡ entriesReasons (tagsBefore own list i) (entriesFrom list row (n - i) i at))
 
 abbrev μ-loop : tie.MeasureT-loop
 μ-loop list row own n at₀ i₀ at i = n - i
-
-count-requires : tie.Need-count-requires Inv-loop μ-loop
-count-requires c κs = search needs
 
 cast-n : tie.Need-cast-n Inv-loop μ-loop
 cast-n c = search needs
@@ -29,8 +26,11 @@ loop-holds c = (search needs, search needs, search needs, search laws.entries-be
 entry-requires : tie.Need-entry-requires Inv-loop μ-loop
 entry-requires c κs = search needs
 
-bytes-requires : tie.Need-bytes-requires Inv-loop μ-loop
-bytes-requires c κs = search needs
+cast-size : tie.Need-cast-size Inv-loop μ-loop
+cast-size c = search needs
+
+part-requires : tie.Need-part-requires Inv-loop μ-loop
+part-requires c κs = search needs
 
 entry-check-requires : tie.Need-entry-check-requires Inv-loop μ-loop
 entry-check-requires c κs = search needs
@@ -43,9 +43,6 @@ returns c = search laws.entries-ends
 
 enum-told : tie.Need-enum-told Inv-loop μ-loop
 enum-told c = search needs
-
-cast-at : tie.Need-cast-at Inv-loop μ-loop
-cast-at c = search needs
 
 add-at : tie.Need-add-at Inv-loop μ-loop
 add-at c = search needs
@@ -68,16 +65,15 @@ entries-check-spec =
     (tie.spec
     Inv-loop
     μ-loop
-    count-requires
     cast-n
     loop-holds
     entry-requires
-    bytes-requires
+    cast-size
+    part-requires
     entry-check-requires
     enum-known-v
     returns
     enum-told
-    cast-at
     add-at
     add-i
     loop-less

@@ -7,9 +7,6 @@ use Rattle.reasons.specs.Reasons.{listReasons}
 use Rattle.reasons.proofs.header_check.Statement.{statement}
 use Rattle.reasons.proofs.header_check.Tie as tie
 
-count-requires : tie.Need-count-requires
-count-requires c κs = search needs
-
 returns : tie.Need-returns
 unfolding listReasons
 returns c = rw entries-total (stopped _ (omega (arith, tests)))
@@ -32,4 +29,4 @@ returns-3 c =
 
 pub header-check-spec : {M : Type 1} → statement M
 header-check-spec =
-    tie.close (tie.spec count-requires returns cast-if2 returns-2 entries-check-requires returns-3)
+    tie.close (tie.spec returns cast-if2 returns-2 entries-check-requires returns-3)

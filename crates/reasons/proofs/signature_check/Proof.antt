@@ -12,9 +12,6 @@ use Rattle.reasons.proofs.signature_check.Tie as tie
 cast-if1 : tie.Need-cast-if1
 cast-if1 c = search needs
 
-count-requires : tie.Need-count-requires
-count-requires c κs = search needs
-
 returns : tie.Need-returns
 unfolding listReasons
 returns c = rw entries-total (passed _ _ (omega (arith, tests)) (stopped _ (omega (arith, tests))))
@@ -31,4 +28,4 @@ returns-2 c =
 
 pub signature-check-spec : {M : Type 1} → statement M
 signature-check-spec =
-    tie.close (tie.spec cast-if1 count-requires returns entries-check-requires returns-2)
+    tie.close (tie.spec cast-if1 returns entries-check-requires returns-2)
