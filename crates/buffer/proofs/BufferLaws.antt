@@ -1,8 +1,8 @@
 -- Stores of a dose in a buffer (two-numbers, of-dose), and a walk that stores a book's doses however they are spelled, for each
 -- way through it (turn-remark, turn-weighed, done, full). For callers: numbers-room.
-use Prim.Native.Nat.{ℕ, suc, _+_, _-_, _*_, _≤_, _<_}
+use Prim.Native.Nat.{ℕ, _+_, _-_, _*_, _≤_, _<_}
 use mathlib.Core.Path.{_≡_, refl, sym, _∙_}
-use mathlib.Core.List.{List, [], _∷_, _++_}
+use mathlib.Core.List.{List, [], _∷_}
 use mathlib.Core.Bool.{Bool, true, false}
 use lib.ListN.{length, set}
 use lib.Seq.{sets}

@@ -1,6 +1,6 @@
 -- The lead from its parts: name-put, lead-put; how long they are: name-length, lead-length.
 use Prim.Native.Nat.{ℕ, _+_, _-_, _≤_}
-use mathlib.Core.Path.{_≡_, refl, sym, ap, _∙_}
+use mathlib.Core.Path.{_≡_, refl, ap, _∙_}
 use mathlib.Core.List.{List, [], _∷_, _++_}
 use lib.ListN.{length, take, drop, length-append, length-replicate, length-take}
 use lib.Seq.{sets}

@@ -1,7 +1,7 @@
 -- The parts of a structure, entry by entry (index-step, index-none, store-step, store-none), with 1000 first (size-index,
 -- size-store), and how long they are (index-length, structure-length, signature-length).
 use Prim.Native.Nat.{ℕ, _+_, _-_, _*_}
-use mathlib.Core.Path.{_≡_, refl, ap, _∙_}
+use mathlib.Core.Path.{_≡_, refl, ap}
 use mathlib.Core.List.{List, [], _∷_, _++_}
 use lib.ListN.{length, length-append}
 use native.Mathlib.Omega.{arith}

@@ -2,7 +2,7 @@
 -- it goes (bytes-here, start-here, stop-here), the store from there on (store-here, store-length) and its end (end-turn, end-spent).
 use Prim.Native.Nat.{ℕ, _+_, _-_, _*_, _≤_, _<_}
 use mathlib.Core.Path.{_≡_, sym, ap, _∙_}
-use mathlib.Core.List.{List, [], _∷_, _++_}
+use mathlib.Core.List.{List, _++_}
 use lib.ListN.{length, take, drop, length-append, length-replicate, length-take, length-drop}
 use native.Mathlib.Omega.{arith}
 use Rattle.put.specs.Puts.{zeros}

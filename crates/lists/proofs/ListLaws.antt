@@ -11,7 +11,7 @@ use native.Mathlib.Omega.{arith}
 use borrow.Author.Tests.{eq-eqb, ne-eqb, eqb-true, eqb-false, le-leb, lt-leb}
 use Rattle.be.specs.Numbers.{be32At}
 use Rattle.lists.specs.declared.ListRecord.{ListRecord}
-use Rattle.lists.specs.Lists.{ListEntry, listRecordAt, recordShown, sizeAt, entryAt, entriesFrom, sizesFrom}
+use Rattle.lists.specs.Lists.{listRecordAt, recordShown, sizeAt, entryAt, entriesFrom, sizesFrom}
 
 module _ (list row : List ℕ) where
   step : (n i at : ℕ)

@@ -1,7 +1,7 @@
 -- A dose's bytes are those that its record's body begins with: the digits of a number that is made of bytes
 -- (oxide-bytes, milligrams-bytes), and their stores (copied).
 use Prim.Native.Nat.{ℕ, _+_, _*_, _/_, _%_, _<_}
-use mathlib.Core.Path.{_≡_, refl, sym, ap, _∙_}
+use mathlib.Core.Path.{_≡_, ap, _∙_}
 use mathlib.Core.List.{List, [], _∷_}
 use lib.ListN.{getD}
 use lib.Seq.{sets}

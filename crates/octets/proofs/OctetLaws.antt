@@ -7,7 +7,7 @@ use lib.ListN.{length}
 use lib.Seq.{sets}
 use native.Mathlib.Omega.{arith}
 use Rattle.put.specs.Puts.{bytesOf}
-use Rattle.put.proofs.PutLaws.{behind, sets-append, length-bytes}
+use Rattle.put.proofs.PutLaws.{sets-append}
 use Rattle.book.specs.declared.dose.Dose.{Dose}
 use Rattle.buffer.specs.Buffer.{numbersOf}
 use Rattle.octets.specs.Octets.{bytesPerNumber, bytesPerDose, numberBytes}

@@ -1,14 +1,13 @@
 -- What 32 leaves (lent, room-ready); the plan for each way through decide (reasons-refuse, room-decides); and for callers
 -- what a plan says: of a refusal (refused), and of sizes that fit (fitting, length-is, put-ready).
-use Prim.Native.Nat.{ℕ, _+_, _*_, _/_, _≤_}
+use Prim.Native.Nat.{ℕ, _/_, _≤_}
 use mathlib.Core.Path.{_≡_, refl, sym, ap, _∙_}
-use mathlib.Core.List.{List, [], _∷_}
+use mathlib.Core.List.{List}
 use lib.ListN.{length}
 use native.Mathlib.Omega.{arith}
 use borrow.Author.Tests.{leb-true}
 use Rattle.format.specs.declared.verdict.Verdict.{Verdict}
 use Rattle.format.specs.declared.verdict.Verdict.the-variants.{Pass, Fail}
-use Rattle.format.specs.Verdicts.{check, both}
 use Rattle.format.proofs.VerdictLaws.{inverted, both-inverted, both-pass, both-fail}
 use Rattle.lists.specs.Lists.{sizesFrom}
 use Rattle.lists.proofs.ListLaws.{entries-total}

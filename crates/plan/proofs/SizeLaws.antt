@@ -1,9 +1,9 @@
 -- The length of a package that is written (signature-size, header-size, written-length), which is no less than the data lent
 -- for it (stores-fit); 33 and 34 for each way through room_check (over-first to fits).
 use Prim.Native.Nat.{ℕ, zero, suc, _+_, _-_, _*_, _/_, _≤_, _<_}
-use mathlib.Core.Path.{_≡_, refl, sym, ap, _∙_}
-use mathlib.Core.List.{List, [], _∷_, _++_}
-use lib.ListN.{length, take, drop, length-append, length-replicate, length-take, length-drop}
+use mathlib.Core.Path.{_≡_, _∙_}
+use mathlib.Core.List.{List, _∷_, _++_}
+use lib.ListN.{length, drop, length-append, length-replicate, length-take, length-drop}
 use native.Mathlib.Omega.{arith}
 use borrow.Author.Tests.{le-leb, lt-leb}
 use Rattle.format.specs.Verdicts.{check}
@@ -15,7 +15,6 @@ use Rattle.layout.specs.Layout.{dataStart, dataStop, storeFrom, structureBytes,
 use Rattle.layout.proofs.LeadLaws.{lead-length}
 use Rattle.layout.proofs.StructureLaws.{structure-length, signature-length}
 use Rattle.plan.specs.declared.Sizes.{Sizes}
-use Rattle.plan.specs.declared.Plan.{Plan}
 use Rattle.plan.specs.declared.Plan.the-variants as plan
 use Rattle.plan.specs.Refusals.{roomCheck, writtenOf}
 use Rattle.plan.specs.Sizes.{signatureStore, headerStore, sizesWith, sizesOf, planned}

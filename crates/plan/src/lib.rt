@@ -1,6 +1,6 @@
 // Decides a writing: refusals 32 to 34, and the sizes of the package.
 ghost use mathlib.Core.Path.{_≡_};
-ghost use Prim.Native.Nat.{ℕ, _+_, _*_, _/_, _≤_, _<_};
+ghost use Prim.Native.Nat.{_+_, _*_, _/_, _≤_, _<_};
 ghost use lib.ListN.{length};
 ghost use Rattle.format.specs.Sizes.{packageLimit};
 ghost use Rattle.lists.specs.Lists.{entriesOf, sizesFrom};

@@ -2,10 +2,10 @@
 -- what there is no room for (cut-none, cut-one, cut-two, last-cut, cut-behind); a copy and a fill, turn by turn (copy-turn,
 -- copied, fill-turn, filled); eight bytes (eight-past, eight-cut, eight-put); numbers in a row (one-number to four-numbers), bytes and zero bytes (run-put, run-past, run-cut); the
 -- length of what is put (length-bytes, length-four).
-use Prim.Native.Nat.{ℕ, zero, suc, _+_, _-_, _*_, _/_, _%_, _≤_, _<_}
-use mathlib.Core.Path.{_≡_, refl, sym, ap, _∙_}
+use Prim.Native.Nat.{ℕ, suc, _+_, _-_, _≤_, _<_}
+use mathlib.Core.Path.{_≡_, refl, sym, _∙_}
 use mathlib.Core.List.{List, [], _∷_, _++_}
-use lib.ListN.{length, getD, set, drop, drop-of-length-le, length-set, length-drop, length-replicate}
+use lib.ListN.{length, getD, set, drop, length-set, length-drop, length-replicate}
 use lib.Seq.{sets, sets-eq, set-out, drop-cons, length-sets}
 use native.Mathlib.Nat.{add-zero}
 use native.Mathlib.Numerals.{add-one}

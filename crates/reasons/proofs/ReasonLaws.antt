@@ -2,7 +2,7 @@
 -- (lawful, exact-fixed, exact-strings, exact-unlawful), its tag (repeated-own, own-other, own-none, repeated), each entry in
 -- turn (entries-begun, entries-turn, entries-ends, entries-spent), the writer's own entry (own-passes), and a zero in a name
 -- (zero-found).
-use Prim.Native.Nat.{ℕ, zero, suc, _+_, _-_, _*_, _/_, _≤_, _<_}
+use Prim.Native.Nat.{ℕ, zero, suc, _+_, _-_, _*_, _≤_, _<_}
 use mathlib.Core.Path.{_≡_, refl, sym, ap, _∙_}
 use mathlib.Core.List.{List, [], _∷_}
 use mathlib.Core.Bool.{Bool, true, false, _||_, or-true, or-false, or-assoc}
@@ -13,7 +13,7 @@ use native.Mathlib.Numerals.{add-one}
 use borrow.Author.Tests.{ne-eqb}
 use Rattle.be.specs.Numbers.{be32At}
 use Rattle.strings.specs.declared.Ending.{Ending}
-use Rattle.strings.specs.declared.Ending.the-variants.{Ends, Open}
+use Rattle.strings.specs.declared.Ending.the-variants.{Ends}
 use Rattle.strings.specs.Strings.{stringsFrom, isEnded}
 use Rattle.format.specs.declared.verdict.Verdict.{Verdict}
 use Rattle.format.specs.declared.verdict.Verdict.the-variants.{Pass, Fail}
@@ -26,9 +26,9 @@ use Rattle.entries.specs.Types.{elementSize, isLawful}
 use Rattle.entries.specs.Entries.{countRight}
 use Rattle.put.specs.Puts.{bytesOf}
 use Rattle.lists.specs.declared.ListRecord.{ListRecord}
-use Rattle.lists.specs.Lists.{ListEntry, listRecordAt, recordShown, sizeAt, entryOf, entryAt, entriesFrom, entriesOf}
-use Rattle.lists.proofs.ListLaws.{record-whole, entries-step, entries-none, entries-total}
-use Rattle.reasons.specs.Reasons.{endsAt, dataExact, tagIn, entryReasons, entriesReasons, listReasons, sizeTag, sizeEntry, hasZero, ownTags, tagsBefore}
+use Rattle.lists.specs.Lists.{ListEntry, listRecordAt, recordShown, sizeAt, entryOf, entryAt, entriesFrom}
+use Rattle.lists.proofs.ListLaws.{record-whole, entries-step, entries-none}
+use Rattle.reasons.specs.Reasons.{endsAt, dataExact, tagIn, entryReasons, entriesReasons, sizeTag, sizeEntry, hasZero, ownTags, tagsBefore}
 
 pub ends-case : {run : Ending} {to : ℕ} (end : ℕ) → run ≡ Ends to → eqb to end ≡ endsAt run end
 ends-case end h = rw h

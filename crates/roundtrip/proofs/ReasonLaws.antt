@@ -1,15 +1,15 @@
 -- What refusals 32 to 34 leave of a name (LawfulName) and a writing (Accepted): each run of tests passes exactly when its
 -- facts hold.
-use Prim.Native.Nat.{ℕ, _+_, _/_, _%_, _≤_, _<_}
+use Prim.Native.Nat.{ℕ, _+_, _≤_, _<_}
 use mathlib.Core.Path.{_≡_, refl, sym, ap, _∙_}
 use mathlib.Core.Logic.{_↔_, _≢_}
-use mathlib.Core.List.{List, [], _∷_}
+use mathlib.Core.List.{List, _∷_}
 use mathlib.Core.Bool.{Bool, true, false, not}
 use lib.ListN.{length, getD}
 use native.Mathlib.Omega.{arith}
-use borrow.Author.Tests.{eqb-true, eq-eqb, leb-true, le-leb, not-true}
+use borrow.Author.Tests.{leb-true, le-leb, not-true}
 use Rattle.strings.proofs.RowLaws.{single-among}
-use Rattle.format.specs.Sizes.{packageLimit, nindexLimit}
+use Rattle.format.specs.Sizes.{packageLimit}
 use Rattle.format.specs.declared.verdict.Verdict.the-variants.{Pass}
 use Rattle.format.proofs.VerdictLaws.{passed, inverted, both-pass, both-inverted}
 use Rattle.lists.specs.Lists.{ListEntry, entriesOf}

@@ -1,9 +1,9 @@
 -- A whole package from its parts (package-put), and what its sizes say of the parts (number-fits, gap-fits, signature-ready,
 -- header-ready).
 use Prim.Native.Nat.{ℕ, _+_, _-_, _*_, _/_, _≤_}
-use mathlib.Core.Path.{_≡_, refl, sym, ap, _∙_}
-use mathlib.Core.List.{List, [], _∷_, _++_}
-use lib.ListN.{length, length-append, length-replicate}
+use mathlib.Core.Path.{_≡_}
+use mathlib.Core.List.{List, _∷_, _++_}
+use lib.ListN.{length, length-replicate}
 use lib.Seq.{sets}
 use native.Mathlib.Omega.{arith}
 use Rattle.put.specs.Puts.{zeros}

@@ -1,13 +1,13 @@
 -- A structure from its parts (structure-put), and the signature with 1000 first (signature-put).
-use Prim.Native.Nat.{ℕ, suc, _+_, _-_, _*_, _≤_}
-use mathlib.Core.Path.{_≡_, refl, sym, ap, _∙_}
-use mathlib.Core.List.{List, [], _∷_, _++_}
-use lib.ListN.{length, length-append, length-replicate}
+use Prim.Native.Nat.{ℕ, suc, _+_, _-_, _*_}
+use mathlib.Core.Path.{_≡_, sym}
+use mathlib.Core.List.{List, _∷_, _++_}
+use lib.ListN.{length, length-append}
 use lib.Seq.{sets}
 use native.Mathlib.Omega.{arith}
-use Rattle.put.specs.Puts.{bytesOf, fourBytes, zeros}
+use Rattle.put.specs.Puts.{bytesOf, fourBytes}
 use Rattle.put.proofs.PutLaws.{behind, length-bytes, length-four}
-use Rattle.lists.specs.Lists.{ListEntry, entriesFrom}
+use Rattle.lists.specs.Lists.{entriesFrom}
 use Rattle.lists.proofs.ListLaws.{entries-total}
 use Rattle.reasons.specs.Reasons.{sizeEntry}
 use Rattle.layout.specs.Layout.{indexFrom, storeFrom, structureBytes}

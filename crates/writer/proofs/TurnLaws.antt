@@ -1,8 +1,8 @@
 -- A walk over a lent list that puts its entries, turn by turn: the index (index-turn, index-spent), and the store by runs of
 -- data (run-turn, gap-turn, store-spent, and the room that is left: run-next, gap-next).
 use Prim.Native.Nat.{ℕ, _+_, _-_, _*_, _≤_, _<_}
-use mathlib.Core.Path.{_≡_, refl, sym, ap, _∙_}
-use mathlib.Core.List.{List, [], _∷_, _++_, append-assoc, append-nil}
+use mathlib.Core.Path.{_≡_, sym, ap, _∙_}
+use mathlib.Core.List.{List, _++_, append-assoc, append-nil}
 use lib.ListN.{length, take, drop, length-append, length-replicate}
 use lib.Seq.{sets}
 use native.Mathlib.Omega.{arith}
