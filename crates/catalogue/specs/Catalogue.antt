@@ -1,6 +1,7 @@
 -- Document 01, "Catalogue": each line is a tag, its type, its count rule and whether it is required, copied from 000.
 -- Document 01 departs from 000 at the signature's 100 (may be absent) and at the counts of the signature's 1002, 1005,
--- 1011 and 1012 and of the header's 1047 and 1114 (any). The house lines are its own.
+-- 1011 and 1012 and of the header's 1047 and 1114 (any), request 2 at those of the header's 1004, 1005 and 1016 (any). The
+-- house lines are document 01's own.
 use Prim.Native.Nat.{ℕ, _+_, _*_, _≤_, _<_}
 use mathlib.Core.Path.{_≡_}
 use mathlib.Core.List.{List, [], _∷_, _++_}
@@ -50,8 +51,8 @@ headerLines =
     row 1000 string 1 required ∷
     row 1001 string 1 required ∷
     row 1002 string 1 required ∷
-    row 1004 translated 1 required ∷
-    row 1005 translated 1 required ∷
+    row 1004 translated any required ∷
+    row 1005 translated any required ∷
     -- table 1-14
     row 1006 int32 1 optional ∷
     row 1007 string 1 optional ∷
@@ -60,7 +61,7 @@ headerLines =
     row 1010 string 1 optional ∷
     row 1011 string 1 optional ∷
     row 1014 string 1 required ∷
-    row 1016 translated 1 required ∷
+    row 1016 translated any required ∷
     row 1020 string 1 optional ∷
     row 1021 string 1 required ∷
     row 1022 string 1 required ∷

@@ -7,6 +7,7 @@ use mathlib.Core.Bool.{true}
 use lib.ListN.{length}
 use native.Mathlib.Omega.{arith}
 use borrow.Author.Tests.{leb-true, le-leb}
+use Rattle.format.specs.declared.section.Structure.the-variants.{Signature, Header}
 use Rattle.format.specs.declared.verdict.Verdict.the-variants.{Pass}
 use Rattle.format.specs.Sizes.{packageLimit, leadSize}
 use Rattle.format.specs.Places.{sectionEnd}
@@ -29,7 +30,7 @@ use Rattle.demands.proofs.PassIff.{check-iff, last-iff, both-iff, then-
 use Rattle.demands.proofs.PackageLawful.{sound-lawful}
 use Rattle.demands.proofs.FoundLawful.{Apart}
 use Rattle.demands.proofs.LineLawful.{lines-lawful}
-use Rattle.demands.proofs.NumberLawful.{Keeps, size-there, states-there, batch-there, text-lines}
+use Rattle.demands.proofs.NumberLawful.{Keeps, size-there, states-there, locales-there, batch-there, text-lines}
 use Rattle.demands.proofs.NumberLawful.{size-lawful, batch-lawful}
 use Rattle.demands.proofs.GroupLawful.{groups-lawful, directories-there}
 use Rattle.demands.proofs.TextLawful.{texts-lawful}
@@ -62,7 +63,7 @@ module _ (edition : Edition) (s : List ℕ) where
       × (needed (bookOf s) ≤ room))
 
   -- 14 to 18
-  rules-lawful : (start : ℕ) → Keeps edition → Apart s (signatureAt s) → LawfulStructure s start
+  rules-lawful : (start : ℕ) → Keeps edition → Apart s (signatureAt s) → LawfulStructure Header s start
       → (rulesCheck (edition .hasLine) s (length s) (signatureAt s) (sectionAt s start) ≡ Pass) ↔ Ruled start
   unfolding rulesOver
   rules-lawful start keeps apart lawful =
@@ -73,7 +74,7 @@ module _ (edition : Edition) (s : List ℕ) where
       let size = size-there edition s signature header lines keeps in
       let states = states-there edition s signature header lines keeps in
       then-iff _ _ (size-lawful s (length s) signature header apart size) λ payload.
-      then-iff _ _ (groups-lawful s signature header apart′ states) λ groups.
+      then-iff _ _ (groups-lawful s signature header apart′ states (locales-there edition s signature header lines keeps)) λ groups.
       texts-lawful s start lawful (text-lines edition s signature header lines keeps)
       (directories-there s signature header groups)
 
@@ -85,7 +86,7 @@ module _ (edition : Edition) (s : List ℕ) where
   H = headerStart (signatureAt s)
 
   -- 19 to 24
-  part-lawful : HoldDoses (edition .known) → (room : ℕ) → LawfulStructure s H → LawfulLines edition s (signatureAt s) (headerAt s)
+  part-lawful : HoldDoses (edition .known) → (room : ℕ) → LawfulStructure Header s H → LawfulLines edition s (signatureAt s) (headerAt s)
       → (bookPart edition s (headerAt s) room (bookOf s) ≡ Pass) ↔ Weighed room H
   unfolding bookPart
   part-lawful hold room lawful lines =
@@ -98,8 +99,8 @@ module _ (edition : Edition) (s : List ℕ) where
   -- 2 to 24
   abbrev Blocks : ℕ → ℕ → Type 0
   Blocks room start =
-      ((length s ≤ packageLimit) × (leadSize ≤ length s) × LawfulLead s × LawfulStructure s leadSize
-      × LawfulStructure s start)
+      ((length s ≤ packageLimit) × (leadSize ≤ length s) × LawfulLead s × LawfulStructure Signature s leadSize
+      × LawfulStructure Header s start)
       × (Ruled start × Weighed room start)
 
   blocks-lawful : Keeps edition → HoldDoses (edition .known) → (room : ℕ) → (checksAt edition s room ≡ Pass) ↔ Blocks room H

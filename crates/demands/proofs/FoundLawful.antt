@@ -1,6 +1,6 @@
 -- What is asked of the record that a look-up by tag finds, as a rule for every record that has the tag: record-iff,
--- found-iff; the record with a type too: typed-found; its number: number-iff; its count: count-iff, counted-iff,
--- below-count-iff, same-count-iff.
+-- found-iff; the record with a type too: typed-found; its number: number-iff; its count: count-rule, count-iff,
+-- counted-iff, below-count-iff, same-count-iff.
 use Prim.Native.Nat.{ℕ, _<_}
 use mathlib.Core.Path.{_≡_, refl, sym, ap, subst, _∙_}
 use mathlib.Core.Logic.{_↔_, Iff·rfl, _≢_, _⊎_, inl, inr, ⊎-elim}
@@ -69,8 +69,14 @@ module _ (s : List ℕ) (section : Section) (apart : Apart s section) (tag : ℕ
       let e = same-record s section tag apart (g .0) i (omega arith) l (w .0 ∙ sym t) in
       f .1 ∙ ap At (g .4 ∙ ap (entryAt s section) e)
 
+  -- a rule for the count of a tag that is present
+  pub count-rule : (Rule : ℕ → Type 0) → HasTag s section tag
+      → Rule (countIn (taggedIn s section) tag) ↔ WhereTagged s section tag (λ (e : IndexRecord). Rule (e .count))
+  count-rule Rule h =
+      found-iff (λ (t : Tagged). Rule (countOf t)) (λ (e : IndexRecord). Rule (e .count)) (λ e k. Iff·rfl) (inr h)
+
   pub count-iff : (n : ℕ) → HasTag s section tag → (countIn (taggedIn s section) tag ≡ n) ↔ HasCount s section tag n
-  count-iff n h = found-iff (λ (t : Tagged). countOf t ≡ n) (λ (e : IndexRecord). e .count ≡ n) (λ e k. Iff·rfl) (inr h)
+  count-iff n = count-rule (λ (count : ℕ). count ≡ n)
 
   pub counted-iff : (n : ℕ) → (has (taggedIn s section) tag ≡ true → countIn (taggedIn s section) tag ≡ n) ↔ HasCount s section tag n
   counted-iff n =
@@ -79,11 +85,8 @@ module _ (s : List ℕ) (section : Section) (apart : Apart s section) (tag : ℕ
 
   pub below-count-iff : (n : ℕ) → HasTag s section tag
       → (n < countIn (taggedIn s section) tag) ↔ WhereTagged s section tag (λ (e : IndexRecord). n < e .count)
-  below-count-iff n h =
-      found-iff (λ (t : Tagged). n < countOf t) (λ (e : IndexRecord). n < e .count) (λ e k. Iff·rfl) (inr h)
+  below-count-iff n = count-rule (λ (count : ℕ). n < count)
 
   pub same-count-iff : (other : ℕ) → HasTag s section tag
       → HasCount s section other (countIn (taggedIn s section) tag) ↔ SameCount s section other tag
-  same-count-iff other h =
-      found-iff (λ (t : Tagged). HasCount s section other (countOf t))
-      (λ (e : IndexRecord). HasCount s section other (e .count)) (λ e k. Iff·rfl) (inr h)
+  same-count-iff other = count-rule (λ (count : ℕ). HasCount s section other count)

@@ -1,22 +1,27 @@
--- Check 17 passes exactly on lawful groups: needs-lawful, counts-lawful, names-lawful, groups-lawful. Where they are
--- lawful, 1118 is present where 1116 is: directories-there.
-use Prim.Native.Nat.{ℕ}
+-- Check 17 passes exactly on lawful groups: needs-lawful, counts-lawful, names-lawful, locales-lawful, groups-lawful. Where
+-- they are lawful, 1118 is present where 1116 is: directories-there.
+use Prim.Native.Nat.{ℕ, _≤_, _<_}
 use mathlib.Core.Path.{_≡_, refl}
 use mathlib.Core.Logic.{_↔_, Iff·rfl}
 use mathlib.Core.List.{List, [], _∷_}
 use mathlib.Core.Bool.{Bool, true, false, and-eq-true-iff}
+use native.Mathlib.Omega.{arith}
 use Rattle.format.specs.declared.section.Section.{Section}
+use Rattle.format.specs.declared.records.IndexRecord.{IndexRecord}
 use Rattle.format.specs.declared.verdict.Verdict.the-variants.{Pass}
+use Rattle.entries.specs.Entries.{recordAt}
 use Rattle.index.specs.Lookup.{taggedIn}
 use Rattle.tags.specs.Tags.{has, countIn}
 use Rattle.files.specs.Files.{countCheck, countsCheck}
 use Rattle.groups.specs.Groups.{needsCheck, signaturePairs, scriptPairs}
 use Rattle.files.specs.Files.{oldNamesRight, newNamesCheck, namesCheck}
+use Rattle.locales.specs.Locales.{localesCheck}
+use Rattle.locales.proofs.OrderLaws.{locales-pass}
 use Rattle.groups.specs.Groups.{ledGroups, groupsCheck}
-use Rattle.demands.specs.Lawful.{HasTag, SameCount, Needs, Each, LawfulGroups}
+use Rattle.demands.specs.Lawful.{HasTag, WhereTagged, SameCount, Needs, Each, LawfulGroups}
 use Rattle.demands.proofs.PassIff.{check-iff, last-iff, both-iff, eqb-iff, choice-iff, unless-iff, not-iff}
 use Rattle.demands.proofs.TagLawful.{has-tag, lacks-tag}
-use Rattle.demands.proofs.FoundLawful.{Apart, counted-iff, same-count-iff}
+use Rattle.demands.proofs.FoundLawful.{Apart, count-rule, counted-iff, same-count-iff}
 use Rattle.demands.proofs.LedLawful.{same-lawful, first-led, second-led}
 
 needs-lawful : (s : List ℕ) (section : Section) (tag other : ℕ)
@@ -73,10 +78,32 @@ module _ (s : List ℕ) (header : Section) (apart : Apart s header) (led : HasTa
       simp (choice-iff, last-iff, has-tag, lacks-tag, new-lawful)
       (λ h. (λ k. old-lawful k .0 (h .0 k), h .1), λ h. (λ k. old-lawful k .1 (h .0 k), h .1))
 
-pub groups-lawful : (s : List ℕ) (signature header : Section) → Apart s header → HasTag s header 1028
-    → (groupsCheck (taggedIn s signature) (taggedIn s header) ≡ Pass) ↔ LawfulGroups s signature header
+-- translated strings, with the count of 100
+abbrev Locales : List ℕ → Section → Type 0
+Locales s header =
+    (i : ℕ) → i < header .nindex → recordAt s header i .ty ≡ 9
+    → WhereTagged s header 100 (λ (e : IndexRecord). recordAt s header i .count ≤ e .count)
+
+module _ (s : List ℕ) (header : Section) (apart : Apart s header) (listed : HasTag s header 100) where
+  abbrev most : ℕ
+  most = countIn (taggedIn s header) 100
+
+  at-most : (n : ℕ) → (n ≤ most) ↔ WhereTagged s header 100 (λ (e : IndexRecord). n ≤ e .count)
+  at-most n = count-rule s header apart 100 (λ (count : ℕ). n ≤ count) listed
+
+  locales-lawful : (localesCheck s header most ≡ Pass) ↔ Locales s header
+  locales-lawful =
+      let pass = locales-pass s header most in (
+        λ h i l t.
+            let few : most < recordAt s header i .count → ⊥ = λ many. pass .0 h i l (t, many) in
+            at-most (recordAt s header i .count) .0 (omega arith),
+        λ h. pass .1 (λ i l (t, many). let few = at-most (recordAt s header i .count) .1 (h i l t) in omega arith),
+      )
+
+pub groups-lawful : (s : List ℕ) (signature header : Section) → Apart s header → HasTag s header 1028 → HasTag s header 100
+    → (groupsCheck s header (taggedIn s signature) (taggedIn s header) ≡ Pass) ↔ LawfulGroups s signature header
 unfolding groupsCheck signaturePairs scriptPairs ledGroups
-groups-lawful s signature header apart led =
+groups-lawful s signature header apart led listed =
     simp (
       both-iff,
       needs-lawful,
@@ -84,10 +111,11 @@ groups-lawful s signature header apart led =
       names-lawful s header apart led,
       first-led s header apart,
       second-led s header apart,
+      locales-lawful s header apart listed,
     ) (
       λ h. let scripts = h .1 .0 in
           let names = h .1 .1 .1 .0 in
-          let groups = h .1 .1 .1 .1 in
+          let groups = h .1 .1 .1 .1 .0 in
           record {
             dsa = h .0 .0;
             rsa = h .0 .1;
@@ -103,6 +131,7 @@ groups-lawful s signature header apart led =
             conflicts = groups .1 .1 .0;
             obsoletes = groups .1 .1 .1 .0;
             changes = groups .1 .1 .1 .1;
+            locales = h .1 .1 .1 .1 .1;
           },
       λ r. (
         (r .dsa, r .rsa),
@@ -110,7 +139,10 @@ groups-lawful s signature header apart led =
           (r .preInstall, (r .postInstall, (r .preRemove, r .postRemove))),
           (
             r .files,
-            ((r .oldNames, r .newNames), (r .requires, (r .provides, (r .conflicts, (r .obsoletes, r .changes))))),
+            (
+              (r .oldNames, r .newNames),
+              ((r .requires, (r .provides, (r .conflicts, (r .obsoletes, r .changes)))), r .locales),
+            ),
           ),
         ),
       ),

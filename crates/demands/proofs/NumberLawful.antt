@@ -11,6 +11,7 @@ use lib.Seq.{getD-take, getD-drop}
 use native.Mathlib.Omega.{arith}
 use Rattle.be.specs.Numbers.{be32At}
 use Rattle.format.specs.declared.section.Section.{Section}
+use Rattle.format.specs.declared.section.Structure.the-variants.{Header}
 use Rattle.format.specs.declared.records.IndexRecord.{IndexRecord}
 use Rattle.format.specs.declared.verdict.Verdict.the-variants.{Pass}
 use Rattle.format.specs.Places.{inFile}
@@ -61,6 +62,10 @@ module _ (edition : Edition) (s : List ℕ) (signature header : Section)
   unfolding lineAt catalogue signatureLines headerLines
   states-there keeps = lines .1 34 (omega arith) (omega arith) (keeps (lineAt 34) refl) .required (omega arith)
 
+  pub locales-there : Keeps edition → HasTag s header 100
+  unfolding lineAt catalogue signatureLines headerLines
+  locales-there keeps = lines .1 13 (omega arith) (omega arith) (keeps (lineAt 13) refl) .required (omega arith)
+
   pub batch-there : hasBatch edition ≡ true → BatchLine s header
   unfolding lineAt catalogue signatureLines headerLines
   batch-there h = let k = lines .1 batchLine (omega arith) (omega arith) h in (k .required (omega arith), k .type′)
@@ -97,7 +102,7 @@ be32-part s at n l = cc (byte 0 (omega arith), byte 1 (omega arith), byte 2 (ome
     first : at + 0 ≡ at
     first = omega arith
 
-module _ (s : List ℕ) (start : ℕ) (lawful : LawfulStructure s start) where
+module _ (s : List ℕ) (start : ℕ) (lawful : LawfulStructure Header s start) where
   -- the number that a look-up shows is that of the record
   shown-number : (i : ℕ) → i < sectionAt s start .nindex → recordAt s (sectionAt s start) i .tag ≡ batchTag
       → recordAt s (sectionAt s start) i .ty ≡ 4
@@ -106,7 +111,7 @@ module _ (s : List ℕ) (start : ℕ) (lawful : LawfulStructure s start) where
   shown-number i l t q =
       let header = sectionAt s start in
       let entry = entryAt s header i in
-      let sound = entry-sound s start lawful i l in
+      let sound = entry-sound Header s start lawful i l in
       let size = sound .fixed 4 (ap elementSize q) in
       let some = sound .some in
       ap (λ (f : Found). be32At (foundBytes s f) 0) (typed-found s header (lawful .tags) batchTag 4 i l t q)

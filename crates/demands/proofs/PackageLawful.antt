@@ -5,6 +5,7 @@ use mathlib.Core.Logic.{_↔_}
 use mathlib.Core.List.{List}
 use lib.ListN.{length}
 use borrow.Author.Tests.{leb-true, le-leb}
+use Rattle.format.specs.declared.section.Structure.the-variants.{Signature, Header}
 use Rattle.format.specs.declared.verdict.Verdict.the-variants.{Pass}
 use Rattle.format.specs.Sizes.{packageLimit, leadSize}
 use Rattle.format.proofs.VerdictLaws.{passed, inverted, both-pass, both-inverted}
@@ -23,8 +24,8 @@ size-lawful len = (
 
 pub sound-lawful : (s : List ℕ)
     → (soundCheck s ≡ Pass)
-    ↔ ((length s ≤ packageLimit) × (leadSize ≤ length s) × LawfulLead s × LawfulStructure s leadSize
-    × LawfulStructure s (headerStart (signatureAt s)))
+    ↔ ((length s ≤ packageLimit) × (leadSize ≤ length s) × LawfulLead s × LawfulStructure Signature s leadSize
+    × LawfulStructure Header s (headerStart (signatureAt s)))
 unfolding packageCheck structuresCheck
 sound-lawful s = (
   λ h.
@@ -35,12 +36,12 @@ sound-lawful s = (
         size .0,
         size .1,
         lead-lawful s .0 (j .0),
-        structure-lawful s leadSize .0 (i .0),
-        structure-lawful s (headerStart (signatureAt s)) .0 (i .1),
+        structure-lawful Signature s leadSize .0 (i .0),
+        structure-lawful Header s (headerStart (signatureAt s)) .0 (i .1),
       ),
   λ h.
       both-pass (size-lawful (length s) .1 (h .0, h .1))
       ∙ both-pass (lead-lawful s .1 (h .2))
-      ∙ both-pass (structure-lawful s leadSize .1 (h .3))
-      ∙ structure-lawful s (headerStart (signatureAt s)) .1 (h .4),
+      ∙ both-pass (structure-lawful Signature s leadSize .1 (h .3))
+      ∙ structure-lawful Header s (headerStart (signatureAt s)) .1 (h .4),
 )

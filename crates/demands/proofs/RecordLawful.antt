@@ -11,6 +11,7 @@ use borrow.Author.Tests.{eqb-true, eqb-false, eq-eqb, leb-true, leb-false}
 use Rattle.strings.specs.declared.Ending.the-variants.{Ends, Open}
 use Rattle.strings.specs.Strings.{isEnded}
 use Rattle.format.specs.declared.section.Section.{Section}
+use Rattle.format.specs.declared.section.Structure.{Structure}
 use Rattle.format.specs.declared.records.IndexRecord.{IndexRecord}
 use Rattle.format.specs.Places.{inFile}
 use Rattle.entries.specs.declared.types.ElementSize.{ElementSize}
@@ -23,7 +24,7 @@ use Rattle.entries.proofs.RuleLaws.{type-lawful, count-lawful}
 use Rattle.demands.specs.Lawful.{zerosFrom, LawfulRecord}
 use Rattle.demands.proofs.StringLawful.{strings-lawful}
 
-module _ (s : List ℕ) (section : Section) (e : IndexRecord) where
+module _ (structure : Structure) (s : List ℕ) (section : Section) (e : IndexRecord) where
   -- 11
   aligned-lawful : (size : ElementSize)
       → (alignedTo size (e .offset .0) ≡ true) ↔ ((n : ℕ) → size ≡ Bytes n → e .offset .0 % n ≡ 0)
@@ -68,34 +69,36 @@ module _ (s : List ℕ) (section : Section) (e : IndexRecord) where
       )
   inside-lawful Unlawful r = let z : _≡_ {A = ℕ} 0 1 = cc in absurd (omega arith)
 
-  record-rules : typeLawful e ≡ true → countRight e ≡ true → isAligned e ≡ true → isInside s section e ≡ true
-      → LawfulRecord s section e
+  record-rules : typeLawful e ≡ true → countRight structure e ≡ true → isAligned e ≡ true → isInside s section e ≡ true
+      → LawfulRecord structure s section e
   unfolding dataEnd
   record-rules h9 h10 h11 h12 =
+      let counted = count-lawful e structure .0 h10 in
       let inside = inside-lawful (elementSize (e .ty)) h9 .0 h12 in
       record {
         type′ = type-lawful (e .ty) .0 h9;
-        count = count-lawful e .0 h10 .0;
-        single = count-lawful e .0 h10 .1;
+        count = counted .0;
+        single = counted .1;
+        translated = counted .2;
         aligned = aligned-lawful (elementSize (e .ty)) .0 h11;
         fixed = inside .0;
         strings = inside .1;
       }
 
-  record-checks : LawfulRecord s section e
-      → (typeLawful e ≡ true) × (countRight e ≡ true) × (isAligned e ≡ true) × (isInside s section e ≡ true)
+  record-checks : LawfulRecord structure s section e
+      → (typeLawful e ≡ true) × (countRight structure e ≡ true) × (isAligned e ≡ true) × (isInside s section e ≡ true)
   unfolding dataEnd
   record-checks h =
       let lawful = type-lawful (e .ty) .1 (h .type′) in (
         lawful,
-        count-lawful e .1 (h .count, h .single),
+        count-lawful e structure .1 (h .count, h .single, h .translated),
         aligned-lawful (elementSize (e .ty)) .1 (h .aligned),
         inside-lawful (elementSize (e .ty)) lawful .1 (h .fixed, h .strings),
       )
 
   pub record-lawful :
-      ((typeLawful e ≡ true) × (countRight e ≡ true) × (isAligned e ≡ true) × (isInside s section e ≡ true))
-      ↔ LawfulRecord s section e
+      ((typeLawful e ≡ true) × (countRight structure e ≡ true) × (isAligned e ≡ true) × (isInside s section e ≡ true))
+      ↔ LawfulRecord structure s section e
   record-lawful = (λ h. record-rules (h .0) (h .1) (h .2) (h .3), record-checks)
 
 -- 13

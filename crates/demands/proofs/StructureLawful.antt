@@ -9,6 +9,7 @@ use lib.ListN.{length}
 use native.Mathlib.Omega.{arith}
 use borrow.Author.Tests.{eq-eqb, le-leb, not-true}
 use Rattle.format.specs.declared.section.Section.{Section}
+use Rattle.format.specs.declared.section.Structure.{Structure}
 use Rattle.format.specs.declared.records.HeaderRecord.{HeaderRecord}
 use Rattle.format.specs.declared.verdict.Verdict.the-variants.{Pass}
 use Rattle.format.specs.Records.{headerRecordAt}
@@ -34,10 +35,10 @@ header-passes len start h k =
     (passed _ _ (le-leb _ _ (k .fits))
     refl))))))
 
-module _ (s : List ℕ) (section : Section) where
+module _ (structure : Structure) (s : List ℕ) (section : Section) where
   -- 9 to 13 of record i
-  entry-lawful : (i : ℕ) → (recordCheck s section i ≡ Pass)
-      ↔ (LawfulRecord s section (recordAt s section i)
+  entry-lawful : (i : ℕ) → (recordCheck structure s section i ≡ Pass)
+      ↔ (LawfulRecord structure s section (recordAt s section i)
       × ((j : ℕ) → j < i → recordAt s section j .tag ≢ recordAt s section i .tag))
   unfolding entryCheck
   entry-lawful i =
@@ -48,17 +49,17 @@ module _ (s : List ℕ) (section : Section) where
             let k11 = inverted _ _ _ _ (k10 .1) in
             let k12 = inverted _ _ _ _ (k11 .1) in
             let k13 = inverted _ _ _ _ (k12 .1) in (
-              record-lawful s section e .0 (k9 .0, k10 .0, k11 .0, k12 .0),
+              record-lawful structure s section e .0 (k9 .0, k10 .0, k11 .0, k12 .0),
               tags-lawful s section i (e .tag) .0 (not-true _ (k13 .0)),
             ),
         λ h.
-            let k = record-lawful s section e .1 (h .0) in
+            let k = record-lawful structure s section e .1 (h .0) in
             let t = tags-lawful s section i (e .tag) .1 (h .1) in
             sym (passed _ _ (k .0) (passed _ _ (k .1) (passed _ _ (k .2) (passed _ _ (k .3) (passed _ _ (ap not t) refl))))),
       )
 
   -- records that pass one by one pass in a row
-  records-pass : (n i : ℕ) → ((k : ℕ) → k < n → recordCheck s section (i + k) ≡ Pass) → recordsFrom s section n i ≡ Pass
+  records-pass : (n i : ℕ) → ((k : ℕ) → k < n → recordCheck structure s section (i + k) ≡ Pass) → recordsFrom structure s section n i ≡ Pass
   unfolding recordsFrom
   records-pass zero i h = refl
   records-pass (suc n) i h =
@@ -66,30 +67,30 @@ module _ (s : List ℕ) (section : Section) where
       both-pass (rw v at (h 0 (omega arith)))
       ∙ records-pass n (i + 1) (λ k l. let w : i + 1 + k ≡ i + suc k = omega arith in rw w (h (suc k) (omega arith)))
 
-module _ (s : List ℕ) (start : ℕ) where
-  structure-rules : structureCheck s (length s) start ≡ Pass → LawfulStructure s start
+module _ (structure : Structure) (s : List ℕ) (start : ℕ) where
+  structure-rules : structureCheck structure s (length s) start ≡ Pass → LawfulStructure structure s start
   structure-rules h =
       record {
-        header = structure-header s (length s) start h;
-        records = λ i l. entry-lawful s (sectionAt s start) i .0 (structure-record s (length s) start h i l) .0;
-        tags = λ i j l. entry-lawful s (sectionAt s start) i .0 (structure-record s (length s) start h i l) .1 j;
+        header = structure-header structure s (length s) start h;
+        records = λ i l. entry-lawful structure s (sectionAt s start) i .0 (structure-record structure s (length s) start h i l) .0;
+        tags = λ i j l. entry-lawful structure s (sectionAt s start) i .0 (structure-record structure s (length s) start h i l) .1 j;
       }
 
-  record-passes : LawfulStructure s start → (i : ℕ) → i < sectionAt s start .nindex
-      → recordCheck s (sectionAt s start) i ≡ Pass
-  record-passes h i l = entry-lawful s (sectionAt s start) i .1 (h .records i l, λ j m. h .tags i j l m)
+  record-passes : LawfulStructure structure s start → (i : ℕ) → i < sectionAt s start .nindex
+      → recordCheck structure s (sectionAt s start) i ≡ Pass
+  record-passes h i l = entry-lawful structure s (sectionAt s start) i .1 (h .records i l, λ j m. h .tags i j l m)
 
   -- the data of a record
-  pub entry-sound : LawfulStructure s start → (i : ℕ) → i < sectionAt s start .nindex
+  pub entry-sound : LawfulStructure structure s start → (i : ℕ) → i < sectionAt s start .nindex
       → SoundEntry s (length s) (entryAt s (sectionAt s start) i)
-  entry-sound h i l = record-sound s (length s) (sectionAt s start) i (h .header .fits) (record-passes h i l)
+  entry-sound h i l = record-sound structure s (length s) (sectionAt s start) i (h .header .fits) (record-passes h i l)
 
-  structure-passes : LawfulStructure s start → structureCheck s (length s) start ≡ Pass
+  structure-passes : LawfulStructure structure s start → structureCheck structure s (length s) start ≡ Pass
   unfolding structureCheck
   structure-passes h =
       both-pass (header-passes (length s) start (headerRecordAt s start) (h .header))
-      ∙ records-pass s (sectionAt s start) (sectionAt s start .nindex) 0
+      ∙ records-pass structure s (sectionAt s start) (sectionAt s start .nindex) 0
       (λ k l. let v : 0 + k ≡ k = omega arith in rw v (record-passes h k l))
 
-  pub structure-lawful : (structureCheck s (length s) start ≡ Pass) ↔ LawfulStructure s start
+  pub structure-lawful : (structureCheck structure s (length s) start ≡ Pass) ↔ LawfulStructure structure s start
   structure-lawful = (structure-rules, structure-passes)

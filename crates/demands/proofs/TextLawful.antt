@@ -15,6 +15,7 @@ use Rattle.be.proofs.SameLaws.{same-eq, same-refl}
 use Rattle.strings.specs.declared.Ending.the-variants.{Ends}
 use Rattle.strings.specs.Strings.{stringsFrom}
 use Rattle.format.specs.declared.section.Section.{Section}
+use Rattle.format.specs.declared.section.Structure.the-variants.{Header}
 use Rattle.format.specs.declared.records.IndexRecord.{IndexRecord}
 use Rattle.format.specs.declared.verdict.Verdict.the-variants.{Pass}
 use Rattle.format.specs.Places.{inFile}
@@ -122,7 +123,7 @@ whole (b ∷ rest) h zero l =
     λ e. not-iff (eqb b 0) .0 (and-eq-true-iff (not (eqb b 0)) (nonzero rest) .0 h .0) (eq-eqb b 0 e)
 whole (b ∷ rest) h (suc i) l = whole rest (and-eq-true-iff (not (eqb b 0)) (nonzero rest) .0 h .1) i (omega arith)
 
-module _ (s : List ℕ) (start : ℕ) (lawful : LawfulStructure s start) where
+module _ (s : List ℕ) (start : ℕ) (lawful : LawfulStructure Header s start) where
   abbrev header : Section
   header = sectionAt s start
 
@@ -138,7 +139,7 @@ module _ (s : List ℕ) (start : ℕ) (lawful : LawfulStructure s start) where
     extent = entryAt s header i .extent
 
     sound : SoundEntry s (length s) (entryAt s header i)
-    sound = entry-sound s start lawful i l
+    sound = entry-sound Header s start lawful i l
 
     rows : (ty : ℕ) → elementSize ty ≡ ToZero → recordAt s header i .ty ≡ ty
         → stringsFrom s extent at (recordAt s header i .count) ≡ Ends (at + extent)

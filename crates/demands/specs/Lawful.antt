@@ -1,4 +1,4 @@
--- What document 01 says a right package is, section by section: no order and no numbers of checks.
+-- What document 01, as request 2 amends it, says a right package is, section by section: no order and no numbers of checks.
 use Prim.Native.Nat.{ℕ, zero, suc, _+_, _-_, _*_, _%_, _≤_, _<_}
 use mathlib.Core.Path.{_≡_}
 use mathlib.Core.Logic.{_⊎_, _≢_}
@@ -9,6 +9,8 @@ use lib.Dec.{eqb}
 use Rattle.be.specs.Numbers.{be16At, be32At}
 use Rattle.strings.specs.Strings.{inRow}
 use Rattle.format.specs.declared.section.Section.{Section}
+use Rattle.format.specs.declared.section.Structure.{Structure}
+use Rattle.format.specs.declared.section.Structure.the-variants.{Signature, Header}
 use Rattle.format.specs.declared.records.IndexRecord.{IndexRecord}
 use Rattle.format.specs.Sizes.{packageLimit, leadSize}
 use Rattle.format.specs.Places.{sectionEnd, inFile}
@@ -43,13 +45,14 @@ unfoldable pub zerosFrom : List ℕ → ℕ → ℕ → ℕ
 zerosFrom s zero at = 0
 zerosFrom s (suc n) at = cond (eqb (getD s at 0) 0) 1 0 + zerosFrom s n (at + 1)
 
--- "Header structure": an index record
-pub record LawfulRecord (s : List ℕ) (section : Section) (e : IndexRecord) : Type 0 where
+-- "Header structure": an index record of the signature or the header
+pub record LawfulRecord (structure : Structure) (s : List ℕ) (section : Section) (e : IndexRecord) : Type 0 where
   -- types 0, 5 and 10 upward are refused
   pub type′ : (1 ≤ e .ty) × (e .ty ≢ 5) × (e .ty ≤ 9)
-  -- count is at least 1, and exactly 1 for types 6 and 9
+  -- count is at least 1, and exactly 1 for type 6 and, in the signature, for type 9
   pub count : 1 ≤ e .count
-  pub single : (e .ty ≡ 6) ⊎ (e .ty ≡ 9) → e .count ≡ 1
+  pub single : e .ty ≡ 6 → e .count ≡ 1
+  pub translated : structure ≡ Signature → e .ty ≡ 9 → e .count ≡ 1
   -- offset is a multiple of the alignment, which is the element size
   pub aligned : (n : ℕ) → elementSize (e .ty) ≡ Bytes n → e .offset .0 % n ≡ 0
   -- data of a fixed size is size × count bytes from offset and ends at or before hsize
@@ -59,9 +62,10 @@ pub record LawfulRecord (s : List ℕ) (section : Section) (e : IndexRecord) : T
       → e .count ≤ zerosFrom s (section .hsize - e .offset .0) (inFile section (e .offset))
 
 -- a structure in the package: its header record, its records, and within one structure no tag occurs twice
-pub record LawfulStructure (s : List ℕ) (start : ℕ) : Type 0 where
+pub record LawfulStructure (structure : Structure) (s : List ℕ) (start : ℕ) : Type 0 where
   pub header : SoundHeader (length s) start (headerRecordAt s start)
-  pub records : (i : ℕ) → i < sectionAt s start .nindex → LawfulRecord s (sectionAt s start) (recordAt s (sectionAt s start) i)
+  pub records : (i : ℕ) → i < sectionAt s start .nindex
+      → LawfulRecord structure s (sectionAt s start) (recordAt s (sectionAt s start) i)
   pub tags : (i j : ℕ) → i < sectionAt s start .nindex → j < i
       → recordAt s (sectionAt s start) j .tag ≢ recordAt s (sectionAt s start) i .tag
 
@@ -132,6 +136,9 @@ pub record LawfulGroups (s : List ℕ) (signature header : Section) : Type 0 whe
   pub conflicts : LawfulLed s header 1054 1053 1054 1055
   pub obsoletes : LawfulLed s header 1090 1090 1114 1115
   pub changes : LawfulLed s header 1081 1080 1081 1082
+  -- every type 9 entry of the header has at most as many strings as tag 100
+  pub locales : (i : ℕ) → i < header .nindex → recordAt s header i .ty ≡ 9
+      → WhereTagged s header 100 (λ (e : IndexRecord). recordAt s header i .count ≤ e .count)
 
 -- the bytes from the data of every record that has a tag on are a text
 abbrev pub TextIs : List ℕ → Section → ℕ → List ℕ → Type 0
@@ -189,11 +196,11 @@ pub record LawfulPackage (edition : Edition) (s : List ℕ) : Type 0 where
   pub least : leadSize ≤ length s
   pub lead : LawfulLead s
   -- the signature structure starts at S = 96
-  pub signature : LawfulStructure s leadSize
+  pub signature : LawfulStructure Signature s leadSize
   -- the header structure starts at H, the first multiple of 8 at or after the signature's end
   pub H : ℕ
   pub place : FirstMultiple 8 (sectionEnd (sectionAt s leadSize)) H
-  pub header : LawfulStructure s H
+  pub header : LawfulStructure Header s H
   pub lines : LawfulLines edition s (sectionAt s leadSize) (sectionAt s H)
   -- the signature's 1000 is length − H
   pub payload : NumberIs s (sectionAt s leadSize) 1000 (length s - H)

@@ -13,6 +13,8 @@ use Rattle.strings.specs.declared.Ending.the-variants.{Ends, Open}
 use Rattle.be.specs.Numbers.{be32At}
 use Rattle.strings.specs.Strings.{stringsFrom, isEnded}
 use Rattle.format.specs.declared.section.Section.{Section}
+use Rattle.format.specs.declared.section.Structure.{Structure}
+use Rattle.format.specs.declared.section.Structure.the-variants.{Signature, Header}
 use Rattle.format.specs.declared.records.IndexRecord.{IndexRecord}
 use Rattle.format.specs.Places.{recordPlace, inFile, sectionEnd}
 use Rattle.entries.specs.declared.types.ElementSize.{ElementSize}
@@ -22,22 +24,31 @@ use Rattle.format.specs.declared.verdict.Verdict.{Verdict}
 use Rattle.format.specs.declared.verdict.Verdict.the-variants.{Pass}
 use Rattle.format.specs.Verdicts.{check, both}
 use Rattle.format.proofs.RunLaws.{apart, apart-under}
-use Rattle.entries.specs.Entries.{typeLawful, countRight, alignedTo, isAligned, endFor, dataEnd}
+use Rattle.entries.specs.Entries.{typeLawful, isSingle, countRight, alignedTo, isAligned, endFor, dataEnd}
 use Rattle.repeats.specs.Repeats.{tagBefore}
 use Rattle.entries.specs.Entries.{dataCheck, entryCheck}
 use Rattle.entries.proofs.TypeLaws.{bytes-small}
 
-pub count-six : (e : IndexRecord) → e .ty ≡ 6 → eqb (e .count) 1 ≡ countRight e
-unfolding countRight
-count-six e h = rw (eq-eqb (e .ty) 6 h)
+-- types of one element only, by the structure
+module _ {structure : Structure} (ty : ℕ) where
+  pub signed-six : structure ≡ Signature → ty ≡ 6 → eqb ty 6 ≡ isSingle structure ty
+  signed-six h k = rw (h, eq-eqb ty 6 k)
 
-pub count-nine : (e : IndexRecord) → (e .ty ≡ 6 → ⊥) → e .ty ≡ 9 → eqb (e .count) 1 ≡ countRight e
-unfolding countRight
-count-nine e k h = rw (ne-eqb (e .ty) 6 k, eq-eqb (e .ty) 9 h)
+  pub signed-other : structure ≡ Signature → (ty ≡ 6 → ⊥) → eqb ty 9 ≡ isSingle structure ty
+  signed-other h k = rw (h, ne-eqb ty 6 k)
 
-pub count-any : (e : IndexRecord) → (e .ty ≡ 6 → ⊥) → (e .ty ≡ 9 → ⊥) → leb 1 (e .count) ≡ countRight e
-unfolding countRight
-count-any e k h = rw (ne-eqb (e .ty) 6 k, ne-eqb (e .ty) 9 h)
+  pub headed : structure ≡ Header → eqb ty 6 ≡ isSingle structure ty
+  headed h = rw h
+
+-- the count, by what the type says
+module _ (structure : Structure) (e : IndexRecord) {r : Bool} (q : r ≡ isSingle structure (e .ty)) where
+  pub count-single : r ≡ true → eqb (e .count) 1 ≡ countRight structure e
+  unfolding countRight
+  count-single h = rw (← q, h)
+
+  pub count-any : r ≡ false → leb 1 (e .count) ≡ countRight structure e
+  unfolding countRight
+  count-any h = rw (← q, h)
 
 -- a fixed size times a 32-bit count
 pub product : (ty : ℕ) {k : ElementSize} {n : ℕ} (count : ℕ) → k ≡ elementSize ty → k ≡ Bytes n → count < 2 ^ 32
@@ -94,10 +105,11 @@ module _ (e : IndexRecord) {n : ℕ} (q : Bytes n ≡ elementSize (e .ty)) where
   fixed-outside section {o} g l = rw (← g, lt-leb (o + n * e .count) (section .hsize) l)
 
   -- the end of fixed data does not depend on the bytes
-  pub fixed-data : (s : List ℕ) (section : Section) (place : ℕ) {v : Verdict} → v ≡ dataCheck place e (endFor (Bytes n) [] section e)
-      → v ≡ dataCheck place e (dataEnd s section e)
+  pub fixed-data : (structure : Structure) (s : List ℕ) (section : Section) (place : ℕ) {v : Verdict}
+      → v ≡ dataCheck structure place e (endFor (Bytes n) [] section e)
+      → v ≡ dataCheck structure place e (dataEnd s section e)
   unfolding dataEnd
-  fixed-data s section place h = rw (← q) h
+  fixed-data structure s section place h = rw (← q) h
 
 pub ruleset fixed = (fixed-lawful, fixed-aligned, fixed-astray, fixed-inside, fixed-outside)
 
@@ -129,13 +141,13 @@ pub sized : (ty : ℕ) {k size : ElementSize} → k ≡ elementSize ty → k ≡
 sized ty q h = sym h ∙ q
 
 -- 9 to 13 are 9 to 12, then 13
-pub entry-as : (s : List ℕ) (section : Section) (i place : ℕ) (e : IndexRecord) (end : Ending)
-    → entryCheck s section i place e end
-    ≡ both (dataCheck place e end) (check (not (tagBefore s section i (e .tag))) 13 place Pass)
+pub entry-as : (structure : Structure) (s : List ℕ) (section : Section) (i place : ℕ) (e : IndexRecord) (end : Ending)
+    → entryCheck structure s section i place e end
+    ≡ both (dataCheck structure place e end) (check (not (tagBefore s section i (e .tag))) 13 place Pass)
 unfolding entryCheck dataCheck
-entry-as s section i place e end =
+entry-as structure s section i place e end =
     let last = check (not (tagBefore s section i (e .tag))) 13 place Pass in
     apart-under (typeLawful e) 9 place last _
-    (apart-under (countRight e) 10 place last _
+    (apart-under (countRight structure e) 10 place last _
     (apart-under (isAligned e) 11 place last _
     (apart (isEnded end) 12 place last)))

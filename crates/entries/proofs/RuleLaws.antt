@@ -1,5 +1,5 @@
 -- The rules of types and counts: check 9 is that the type is in the table (type-lawful), check 10 that the count is at
--- least 1, and exactly 1 for types 6 and 9 (count-lawful).
+-- least 1, and exactly 1 for type 6 and, in the signature, for type 9 (count-lawful).
 use Prim.Native.Nat.{ℕ, suc, _%_, _≤_, _<_}
 use mathlib.Core.Path.{_≡_, refl}
 use mathlib.Core.Logic.{_⊎_, inl, inr, ⊎-elim, _↔_, _≢_}
@@ -8,6 +8,8 @@ use lib.Dec.{eqb, leb}
 use native.Mathlib.Omega.{arith}
 use native.Mathlib.Nat.{eq-or-lt-of-le}
 use borrow.Author.Tests.{eqb-true, eqb-false, eq-eqb, ne-eqb, leb-true, le-leb}
+use Rattle.format.specs.declared.section.Structure.{Structure}
+use Rattle.format.specs.declared.section.Structure.the-variants.{Signature, Header}
 use Rattle.format.specs.declared.records.IndexRecord.{IndexRecord}
 use Rattle.entries.specs.Types.{elementSize, isLawful}
 use Rattle.entries.specs.Entries.{countRight}
@@ -48,20 +50,35 @@ module _ (ty : ℕ) where
 
 -- 10
 module _ (e : IndexRecord) where
-  single-lawful : (e .ty ≡ 6) ⊎ (e .ty ≡ 9)
-      → (eqb (e .count) 1 ≡ true) ↔ ((1 ≤ e .count) × ((e .ty ≡ 6) ⊎ (e .ty ≡ 9) → e .count ≡ 1))
-  single-lawful k = (λ h. let c = eqb-true (e .count) 1 h in (omega arith, λ k. c), λ h. eq-eqb _ _ (h .1 k))
+  -- what check 10 says in a structure
+  abbrev pub Counted : Structure → Type 0
+  Counted structure = (1 ≤ e .count) × (e .ty ≡ 6 → e .count ≡ 1) × (structure ≡ Signature → e .ty ≡ 9 → e .count ≡ 1)
 
-  pub count-lawful : (countRight e ≡ true) ↔ ((1 ≤ e .count) × ((e .ty ≡ 6) ⊎ (e .ty ≡ 9) → e .count ≡ 1))
+  one : (structure : Structure) → (e .ty ≡ 6) ⊎ ((structure ≡ Signature) × (e .ty ≡ 9))
+      → (eqb (e .count) 1 ≡ true) ↔ Counted structure
+  one structure k = (
+    λ h. let c = eqb-true (e .count) 1 h in (omega arith, λ k. c, λ q k. c),
+    λ h. eq-eqb _ _ (⊎-elim (h .1) (λ q. h .2 (q .0) (q .1)) k),
+  )
+
+  some : (structure : Structure) → (e .ty ≡ 6 → ⊥) → (structure ≡ Signature → e .ty ≡ 9 → ⊥)
+      → (leb 1 (e .count) ≡ true) ↔ Counted structure
+  some structure six nine = (
+    λ h. (leb-true _ _ h, λ k. absurd (six k), λ q k. absurd (nine q k)),
+    λ h. le-leb _ _ (h .0),
+  )
+
+  signed : (a b : Bool) → eqb (e .ty) 6 ≡ a → eqb (e .ty) 9 ≡ b
+      → (cond (a || b) (eqb (e .count) 1) (leb 1 (e .count)) ≡ true) ↔ Counted Signature
+  signed true b p q = one Signature (inl (eqb-true _ _ p))
+  signed false true p q = one Signature (inr (refl, eqb-true _ _ q))
+  signed false false p q = some Signature (eqb-false _ _ p) (λ k. eqb-false _ _ q)
+
+  headed : (a : Bool) → eqb (e .ty) 6 ≡ a → (cond a (eqb (e .count) 1) (leb 1 (e .count)) ≡ true) ↔ Counted Header
+  headed true p = one Header (inl (eqb-true _ _ p))
+  headed false p = some Header (eqb-false _ _ p) (λ k. let z : _≡_ {A = ℕ} 0 1 = cc in absurd (omega arith))
+
+  pub count-lawful : (structure : Structure) → (countRight structure e ≡ true) ↔ Counted structure
   unfolding countRight
-  count-lawful = go (eqb (e .ty) 6) (eqb (e .ty) 9) refl refl
-    where
-      go : (a b : Bool) → eqb (e .ty) 6 ≡ a → eqb (e .ty) 9 ≡ b
-          → (cond (a || b) (eqb (e .count) 1) (leb 1 (e .count)) ≡ true)
-          ↔ ((1 ≤ e .count) × ((e .ty ≡ 6) ⊎ (e .ty ≡ 9) → e .count ≡ 1))
-      go true b p q = single-lawful (inl (eqb-true _ _ p))
-      go false true p q = single-lawful (inr (eqb-true _ _ q))
-      go false false p q = (
-        λ h. (leb-true _ _ h, λ k. absurd (⊎-elim (eqb-false _ _ p) (eqb-false _ _ q) k)),
-        λ h. le-leb _ _ (h .0),
-      )
+  count-lawful Signature = signed (eqb (e .ty) 6) (eqb (e .ty) 9) refl refl
+  count-lawful Header = headed (eqb (e .ty) 6) refl

@@ -8,6 +8,8 @@ use Rattle.strings.specs.declared.Ending.the-variants.{Ends, Open}
 use Rattle.be.specs.Numbers.{be32At}
 use Rattle.strings.specs.Strings.{stringsFrom, isEnded}
 use Rattle.format.specs.declared.section.Section.{Section}
+use Rattle.format.specs.declared.section.Structure.{Structure}
+use Rattle.format.specs.declared.section.Structure.the-variants.{Signature, Header}
 use Rattle.format.specs.declared.records.IndexRecord.{IndexRecord}
 use Rattle.format.specs.declared.verdict.Verdict.{Verdict}
 use Rattle.format.specs.declared.verdict.Verdict.the-variants.{Pass}
@@ -27,9 +29,13 @@ recordAt s section i = indexRecordAt s (recordPlace section i)
 abbrev pub typeLawful : IndexRecord → Bool
 typeLawful e = isLawful (elementSize (e .ty))
 
--- 10 | count: at least 1, and exactly 1 for types 6 and 9
-unfoldable pub countRight : IndexRecord → Bool
-countRight e = cond (eqb (e .ty) 6 || eqb (e .ty) 9) (eqb (e .count) 1) (leb 1 (e .count))
+-- 10 | count: at least 1, and exactly 1 for type 6 and, in the signature, for type 9
+abbrev pub isSingle : Structure → ℕ → Bool
+isSingle Signature ty = eqb ty 6 || eqb ty 9
+isSingle Header ty = eqb ty 6
+
+unfoldable pub countRight : Structure → IndexRecord → Bool
+countRight structure e = cond (isSingle structure (e .ty)) (eqb (e .count) 1) (leb 1 (e .count))
 
 -- 11 | alignment: the offset is a multiple of the alignment, which is a fixed size, and 1 for strings
 abbrev pub alignedTo : ElementSize → ℕ → Bool
@@ -56,24 +62,24 @@ abbrev pub isInside : List ℕ → Section → IndexRecord → Bool
 isInside s section e = isEnded (dataEnd s section e)
 
 -- 9 to 12 for an index record that starts at a place, with where its data ends
-unfoldable pub dataCheck : ℕ → IndexRecord → Ending → Verdict
-dataCheck place e end =
+unfoldable pub dataCheck : Structure → ℕ → IndexRecord → Ending → Verdict
+dataCheck structure place e end =
     check (typeLawful e) 9 place
-    (check (countRight e) 10 place
+    (check (countRight structure e) 10 place
     (check (isAligned e) 11 place
     (check (isEnded end) 12 place
     Pass)))
 
 -- 9 to 13 for index record i, which is e and starts at a place, with where its data ends
-unfoldable pub entryCheck : List ℕ → Section → ℕ → ℕ → IndexRecord → Ending → Verdict
-entryCheck s section i place e end =
+unfoldable pub entryCheck : Structure → List ℕ → Section → ℕ → ℕ → IndexRecord → Ending → Verdict
+entryCheck structure s section i place e end =
     check (typeLawful e) 9 place
-    (check (countRight e) 10 place
+    (check (countRight structure e) 10 place
     (check (isAligned e) 11 place
     (check (isEnded end) 12 place
     (check (not (tagBefore s section i (e .tag))) 13 place
     Pass))))
 
-abbrev pub recordCheck : List ℕ → Section → ℕ → Verdict
-recordCheck s section i =
-    entryCheck s section i (recordPlace section i) (recordAt s section i) (dataEnd s section (recordAt s section i))
+abbrev pub recordCheck : Structure → List ℕ → Section → ℕ → Verdict
+recordCheck structure s section i =
+    entryCheck structure s section i (recordPlace section i) (recordAt s section i) (dataEnd s section (recordAt s section i))

@@ -3,26 +3,34 @@ ghost use mathlib.Core.Path.{_≡_};
 ghost use mathlib.Core.List.{[]};
 ghost use Rattle.entries.specs.declared.types.ElementSize.the-variants.{Bytes, ToZero};
 ghost use Rattle.entries.specs.Types.{elementSize};
-ghost use Rattle.entries.specs.Entries.{countRight, endFor, dataEnd, dataCheck, entryCheck};
+ghost use Rattle.entries.specs.Entries.{isSingle, countRight, endFor, dataEnd, dataCheck, entryCheck};
 
 pub mod types;
 
 use format::IndexRecord;
 use format::Section;
+use format::Structure;
 use format::Verdict;
 use repeats::tag_before;
 use strings::Ending;
 pub use types::ElementSize;
 use types::element_size;
 
-// Check 10.
-pub fn count_right(e: IndexRecord) -> bool
-    ensures { λ r. ⌜ r ≡ countRight e ⌝ }
+// Whether the entries of a type have one element only.
+fn is_single(structure: Structure, ty: u32) -> bool
+    ensures { λ r. ⌜ r ≡ isSingle structure ty ⌝ }
 {
-    if e.ty == 6 {
-        return e.count == 1;
+    match structure {
+        Structure::Signature => ty == 6 || ty == 9,
+        Structure::Header => ty == 6,
     }
-    if e.ty == 9 {
+}
+
+// Check 10.
+pub fn count_right(structure: Structure, e: IndexRecord) -> bool
+    ensures { λ r. ⌜ r ≡ countRight structure e ⌝ }
+{
+    if is_single(structure, e.ty) {
         return e.count == 1;
     }
     1 <= e.count
@@ -52,11 +60,17 @@ pub fn data_end(s: &[u8], section: Section, e: IndexRecord) -> Ending
 }
 
 // Checks 10 to 12 for a record that is `e` and starts at `place`, of elements of `n` bytes each.
-fn fixed_check(section: Section, place: u32, e: IndexRecord, n: usize) -> Verdict
+fn fixed_check(
+    structure: Structure,
+    section: Section,
+    place: u32,
+    e: IndexRecord,
+    n: usize,
+) -> Verdict
     requires { ⌜ Bytes n ≡ elementSize (e .ty) ⌝ }
-    ensures { λ r. ⌜ r ≡ dataCheck place e (endFor (Bytes n) [] section e) ⌝ }
+    ensures { λ r. ⌜ r ≡ dataCheck structure place e (endFor (Bytes n) [] section e) ⌝ }
 {
-    if !count_right(e) {
+    if !count_right(structure, e) {
         return Verdict::Fail(10, place);
     }
     let offset = e.offset.get() as usize;
@@ -72,11 +86,17 @@ fn fixed_check(section: Section, place: u32, e: IndexRecord, n: usize) -> Verdic
 }
 
 // The same for an entry of strings.
-fn strings_check(s: &[u8], section: Section, place: u32, e: IndexRecord) -> Verdict
+fn strings_check(
+    structure: Structure,
+    s: &[u8],
+    section: Section,
+    place: u32,
+    e: IndexRecord,
+) -> Verdict
     requires { ⌜ ToZero ≡ elementSize (e .ty) ⌝ }
-    ensures { λ r. ⌜ r ≡ dataCheck place e (dataEnd (now (s .entry)) section e) ⌝ }
+    ensures { λ r. ⌜ r ≡ dataCheck structure place e (dataEnd (now (s .entry)) section e) ⌝ }
 {
-    if !count_right(e) {
+    if !count_right(structure, e) {
         return Verdict::Fail(10, place);
     }
     let from = section.in_file(e.offset);
@@ -89,22 +109,35 @@ fn strings_check(s: &[u8], section: Section, place: u32, e: IndexRecord) -> Verd
 }
 
 // Checks 9 to 12 for a record that is `e` and starts at `place`.
-fn data_check(s: &[u8], section: Section, place: u32, e: IndexRecord) -> Verdict
-    ensures { λ r. ⌜ r ≡ dataCheck place e (dataEnd (now (s .entry)) section e) ⌝ }
+fn data_check(
+    structure: Structure,
+    s: &[u8],
+    section: Section,
+    place: u32,
+    e: IndexRecord,
+) -> Verdict
+    ensures { λ r. ⌜ r ≡ dataCheck structure place e (dataEnd (now (s .entry)) section e) ⌝ }
 {
     let size = element_size(e.ty);
     match size {
-        ElementSize::Bytes(n) => fixed_check(section, place, e, n),
-        ElementSize::ToZero => strings_check(s, section, place, e),
+        ElementSize::Bytes(n) => fixed_check(structure, section, place, e, n),
+        ElementSize::ToZero => strings_check(structure, s, section, place, e),
         ElementSize::Unlawful => Verdict::Fail(9, place),
     }
 }
 
 // Checks 9 to 13 for record `i`, which is `e` and starts at `place`.
-pub fn entry_check(s: &[u8], section: Section, i: u32, place: u32, e: IndexRecord) -> Verdict
-    ensures { λ r. ⌜ r ≡ entryCheck (now (s .entry)) section i place e (dataEnd (now (s .entry)) section e) ⌝ }
+pub fn entry_check(
+    structure: Structure,
+    s: &[u8],
+    section: Section,
+    i: u32,
+    place: u32,
+    e: IndexRecord,
+) -> Verdict
+    ensures { λ r. ⌜ r ≡ entryCheck structure (now (s .entry)) section i place e (dataEnd (now (s .entry)) section e) ⌝ }
 {
-    let v = data_check(s, section, place, e);
+    let v = data_check(structure, s, section, place, e);
     if let Verdict::Fail(number, at) = v {
         return Verdict::Fail(number, at);
     }

@@ -3,3 +3,4 @@ pub mod RecordLaws
 pub mod LeadLaws
 pub mod NumberLaws
 pub mod RunLaws
+pub mod FirstLaws

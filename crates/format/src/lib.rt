@@ -8,5 +8,6 @@ pub use lead::Lead;
 pub use records::HeaderRecord;
 pub use records::IndexRecord;
 pub use section::Section;
+pub use section::Structure;
 pub use verdict::Answer;
 pub use verdict::Verdict;

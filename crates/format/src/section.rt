@@ -14,6 +14,12 @@ use places::FileOffset;
 use places::Start;
 use places::StoreOffset;
 
+// Which of a package's two header structures.
+pub enum Structure {
+    Signature,
+    Header,
+}
+
 // Where a structure starts in the file, its number of index records and its store's size.
 pub struct Section {
     pub start: Start,

@@ -4,12 +4,14 @@ use Prim.Native.Nat.{ℕ, _+_, _*_}
 use mathlib.Core.Path.{_≡_, refl, sym, ap, _∙_}
 use mathlib.Core.List.{List, [], _∷_}
 use lib.ListN.{getD}
+use Rattle.format.specs.declared.section.Section.{Section}
 use Rattle.format.specs.declared.verdict.Verdict.{Verdict}
 use Rattle.format.specs.declared.verdict.Verdict.the-variants.{Pass}
 use Rattle.format.specs.Verdicts.{both, runFrom}
 use Rattle.format.proofs.RunLaws.{both-end, both-assoc}
 use Rattle.tags.specs.Tags.{Look, countIn}
 use Rattle.files.specs.Files.{filesCheck, namesCheck, fileGroups}
+use Rattle.locales.specs.Locales.{localesCheck}
 use Rattle.groups.specs.Groups.{needsCheck, pairsCheck, signaturePairs, scriptPairs, ledCheck, ledGroups, groupsCheck}
 
 -- the led groups as a table: a leader and the three tags of its group
@@ -48,9 +50,10 @@ module _ (look : Look) where
       (both (ledCheck look 1054 1053 1054 1055) (both (ledCheck look 1090 1090 1114 1115) v))))
       (sym (both-end (ledCheck look 1081 1080 1081 1082)))
 
-pub groups-as : (signature header : Look) → groupsCheck signature header
-    ≡ both (signaturePairs signature) (both (scriptPairs header) (both (fileGroups header) (ledGroups header)))
+pub groups-as : (s : List ℕ) (header : Section) (inSignature inHeader : Look) → groupsCheck s header inSignature inHeader
+    ≡ both (signaturePairs inSignature) (both (scriptPairs inHeader) (both (fileGroups inHeader)
+    (both (ledGroups inHeader) (localesCheck s header (countIn inHeader 100)))))
 unfolding groupsCheck
-groups-as signature header =
-    ap (λ (v : Verdict). both (signaturePairs signature) (both (scriptPairs header) v))
-    (sym (both-assoc (filesCheck header) (namesCheck header (countIn header 1028)) (ledGroups header)))
+groups-as s header inSignature inHeader =
+    ap (λ (v : Verdict). both (signaturePairs inSignature) (both (scriptPairs inHeader) v))
+    (sym (both-assoc (filesCheck inHeader) (namesCheck inHeader (countIn inHeader 1028)) _))

@@ -1,15 +1,18 @@
 -- Document 01, "Catalogue", groups (check 17), in its order. Unless said otherwise the place is the lowest missing tag,
--- else the lowest tag whose count differs. A structure is what it shows for each tag.
+-- else the lowest tag whose count differs. A structure is what it shows for each tag; the last group, request 2's, asks the
+-- header's index.
 use Prim.Native.Nat.{ℕ, _+_, _*_, _/_}
 use mathlib.Core.List.{List}
 use mathlib.Core.Bool.{Bool, cond, not, _||_}
 use lib.ListN.{length, getD}
 use lib.Dec.{eqb}
+use Rattle.format.specs.declared.section.Section.{Section}
 use Rattle.format.specs.declared.verdict.Verdict.{Verdict}
 use Rattle.format.specs.declared.verdict.Verdict.the-variants.{Pass}
 use Rattle.format.specs.Verdicts.{check, both, runFrom}
 use Rattle.tags.specs.Tags.{Look, has, countIn}
 use Rattle.files.specs.Files.{filesCheck, namesCheck}
+use Rattle.locales.specs.Locales.{localesCheck}
 
 -- one tag needs another
 unfoldable pub needsCheck : Look → ℕ → ℕ → Verdict
@@ -58,10 +61,11 @@ ledGroups header =
     (ledCheck header 1081 1080 1081 1082))))
 
 -- 17
-unfoldable pub groupsCheck : Look → Look → Verdict
-groupsCheck signature header =
-    both (signaturePairs signature)
-    (both (scriptPairs header)
-    (both (filesCheck header)
-    (both (namesCheck header (countIn header 1028))
-    (ledGroups header))))
+unfoldable pub groupsCheck : List ℕ → Section → Look → Look → Verdict
+groupsCheck s header inSignature inHeader =
+    both (signaturePairs inSignature)
+    (both (scriptPairs inHeader)
+    (both (filesCheck inHeader)
+    (both (namesCheck inHeader (countIn inHeader 1028))
+    (both (ledGroups inHeader)
+    (localesCheck s header (countIn inHeader 100))))))

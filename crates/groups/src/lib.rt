@@ -1,5 +1,5 @@
 // Groups of tags, those of the files among them: check 17.
-// It asks the records that were gathered.
+// All but the last group ask the records that were gathered.
 ghost use mathlib.Core.Path.{_≡_};
 ghost use Prim.Native.Nat.{ℕ};
 ghost use mathlib.Core.Bool.{_||_};
@@ -7,6 +7,7 @@ ghost use Rattle.tags.specs.Tags.{has};
 ghost use Rattle.tags.specs.Tables.{shownBy};
 ghost use Rattle.groups.specs.Groups.{needsCheck, pairsCheck, signaturePairs, scriptPairs};
 ghost use Rattle.groups.specs.Groups.{wholeCheck, ledCheck, ledGroups, groupsCheck};
+use format::Section;
 use format::Verdict;
 use tags::Table;
 use tags::count;
@@ -131,21 +132,30 @@ fn led_groups(header: &[u32; Table::NUMBERS]) -> Verdict
     Verdict::Pass
 }
 
-// Check 17.
-pub fn check(signature: &[u32; Table::NUMBERS], header: &[u32; Table::NUMBERS]) -> Verdict
-    ensures { λ r. ⌜ r ≡ groupsCheck (shownBy (now (signature .entry))) (shownBy (now (header .entry))) ⌝ }
+// Check 17, over what was gathered from signature and header.
+pub fn check(
+    pkg: &[u8],
+    header: Section,
+    first: &[u32; Table::NUMBERS],
+    second: &[u32; Table::NUMBERS],
+) -> Verdict
+    ensures { λ r. ⌜ r ≡ groupsCheck (now (pkg .entry)) header (shownBy (now (first .entry))) (shownBy (now (second .entry))) ⌝ }
 {
-    let v = signature_pairs(signature);
+    let v = signature_pairs(first);
     if let Verdict::Fail(number, place) = v {
         return Verdict::Fail(number, place);
     }
-    let v = script_pairs(header);
+    let v = script_pairs(second);
     if let Verdict::Fail(number, place) = v {
         return Verdict::Fail(number, place);
     }
-    let v = files::check(header);
+    let v = files::check(second);
     if let Verdict::Fail(number, place) = v {
         return Verdict::Fail(number, place);
     }
-    led_groups(header)
+    let v = led_groups(second);
+    if let Verdict::Fail(number, place) = v {
+        return Verdict::Fail(number, place);
+    }
+    locales::check(pkg, header, count(second, 100))
 }

@@ -1,7 +1,7 @@
 -- Checks 14 and 15 in tag order: lines-in-order, from the catalogue's rule. The catalogue's lawful types: types-alike,
 -- lines-lawful.
 use Prim.Native.Nat.{ℕ, zero, suc, _+_, _-_, _≤_, _<_}
-use mathlib.Core.Path.{_≡_, refl, sym, ap, subst, _∙_}
+use mathlib.Core.Path.{_≡_, refl, sym, ap, _∙_}
 use mathlib.Core.Logic.{_⊎_, inl, inr}
 use mathlib.Core.Bool.{Bool, true, false, cond, not, _||_}
 use lib.Dec.{eqb, ltb}
@@ -9,8 +9,10 @@ use native.Mathlib.Omega.{arith}
 use borrow.Author.Tests.{ltb-true, ltb-false}
 use Rattle.format.specs.declared.verdict.Verdict.{Verdict}
 use Rattle.format.specs.declared.verdict.Verdict.the-variants.{Pass, Fail}
-use Rattle.format.specs.Verdicts.{check, both}
-use Rattle.format.proofs.VerdictLaws.{both-pass, both-fail, both-inverted}
+use Rattle.format.specs.Verdicts.{check, both, runFrom}
+use Rattle.format.proofs.VerdictLaws.{both-pass, both-fail}
+use Rattle.format.proofs.RunLaws as run
+use Rattle.format.proofs.FirstLaws.{First, run-passes, run-fails}
 use Rattle.entries.specs.declared.types.ElementSize.the-variants.{Bytes, ToZero, Unlawful}
 use Rattle.entries.specs.Types.{elementSize, isLawful}
 use Rattle.index.specs.declared.Tagged.{Tagged}
@@ -41,83 +43,42 @@ line-place hasLine look line {number} {place} h = go (hasLine line) h
     go true k = found-place line (look (line .tag)) k
     go false k = let z : _≡_ {A = ℕ} 0 1 = cc in absurd (omega arith)
 
--- the first of some lines that is refused
-pub record First (hasLine : Line → Bool) (look : Look) (n i number tag : ℕ) : Type 0 where
-  pub line : ℕ
-  pub from : i ≤ line
-  pub within : line < i + n
-  pub refused : lineIf hasLine look (lineAt line) ≡ Fail number tag
-  pub before : (k : ℕ) → i ≤ k → k < line → LinePasses hasLine look k
-
 module _ (hasLine : Line → Bool) (look : Look) where
-  -- what holds of line i and of the lines behind it
-  from-next : {i : ℕ} (P : ℕ → Type 0) → P i → ((k : ℕ) → i + 1 ≤ k → P k) → (k : ℕ) → i ≤ k → P k
-  from-next {i} P p q k l = go (ltb i k) refl
-    where
-      go : (b : Bool) → ltb i k ≡ b → P k
-      go true h = let m = ltb-true i k h in q k (omega arith)
-      go false h = let m = ltb-false i k h in let e : i ≡ k = omega arith in subst P e p
+  abbrev checkAt : ℕ → Verdict
+  checkAt i = lineIf hasLine look (lineAt i)
+
+  as-run : (n i : ℕ) → linesFrom lineAt hasLine look n i ≡ runFrom checkAt n i
+  as-run zero i = none lineAt hasLine look i ∙ sym (run.none checkAt i)
+  as-run (suc n) i = step lineAt hasLine look n i ∙ ap (both (checkAt i)) (as-run n (i + 1)) ∙ sym (run.first checkAt n i)
 
   all-pass : (n i : ℕ) → linesFrom lineAt hasLine look n i ≡ Pass → (k : ℕ) → i ≤ k → k < i + n → LinePasses hasLine look k
-  all-pass zero i h k l m = absurd (omega arith)
-  all-pass (suc n) i h k l m =
-      let p =
-      both-inverted (lineIf hasLine look (lineAt i)) (linesFrom lineAt hasLine look n (i + 1))
-      (sym (step lineAt hasLine look n i) ∙ h)
-      in
-      from-next (λ (j : ℕ). j < i + suc n → LinePasses hasLine look j) (λ q. p .0)
-      (λ j r q. all-pass n (i + 1) (p .1) j r (omega arith)) k l m
+  all-pass n i h = run-passes checkAt n i .0 (sym (as-run n i) ∙ h)
 
-  first : (n i number tag : ℕ) → linesFrom lineAt hasLine look n i ≡ Fail number tag → First hasLine look n i number tag
-  first zero i number tag h =
-      let e : Pass ≡ Fail number tag = sym (none lineAt hasLine look i) ∙ h in
-      let z : _≡_ {A = ℕ} 0 1 = cc in
-      absurd (omega arith)
-  first (suc n) i number tag h = go (lineIf hasLine look (lineAt i)) refl (first n (i + 1) number tag)
-    where
-      go : (v : Verdict) → lineIf hasLine look (lineAt i) ≡ v
-          → (linesFrom lineAt hasLine look n (i + 1) ≡ Fail number tag → First hasLine look n (i + 1) number tag)
-          → First hasLine look (suc n) i number tag
-      go Pass e later =
-          let f = later (sym (step lineAt hasLine look n i ∙ both-pass e) ∙ h) in
-          record {
-            line = f .line;
-            from = let l = f .from in omega arith;
-            within = let l = f .within in omega arith;
-            refused = f .refused;
-            before = λ k l m. from-next (λ (j : ℕ). j < f .line → LinePasses hasLine look j) (λ q. e) (λ j r q. f .before j r q) k l m;
-          }
-      go (Fail a b) e later =
-          record {
-            line = i;
-            from = omega arith;
-            within = omega arith;
-            refused = e ∙ sym (both-fail (linesFrom lineAt hasLine look n (i + 1)) e) ∙ sym (step lineAt hasLine look n i) ∙ h;
-            before = λ k l m. absurd (omega arith);
-          }
+  first : (n i number tag : ℕ) → linesFrom lineAt hasLine look n i ≡ Fail number tag → First checkAt n i number tag
+  first n i number tag h = run-fails checkAt n i .0 (sym (as-run n i) ∙ h)
 
   -- where tags rise, the lines with a lower tag stand before
-  lower : (n i number tag : ℕ) (f : First hasLine look n i number tag)
+  lower : (n i number tag : ℕ) (f : First checkAt n i number tag)
       → ((a b : ℕ) → i ≤ a → a < b → b < i + n → lineAt a .tag < lineAt b .tag)
       → (k : ℕ) → i ≤ k → k < i + n → lineAt k .tag < tag → LinePasses hasLine look k
-  lower n i number tag f rises k l m t = go (ltb k (f .line)) refl
+  lower n i number tag f rises k l m t = go (ltb k (f .which)) refl
     where
-      at-tag : lineAt (f .line) .tag ≡ tag
-      at-tag = line-place hasLine look (lineAt (f .line)) (f .refused)
+      at-tag : lineAt (f .which) .tag ≡ tag
+      at-tag = line-place hasLine look (lineAt (f .which)) (f .fails)
 
-      behind : (b : Bool) → ltb (f .line) k ≡ b → f .line ≤ k → LinePasses hasLine look k
+      behind : (b : Bool) → ltb (f .which) k ≡ b → f .which ≤ k → LinePasses hasLine look k
       behind true h q =
-          let r = rises (f .line) k (f .from) (ltb-true (f .line) k h) m in
+          let r = rises (f .which) k (f .from) (ltb-true (f .which) k h) m in
           absurd (omega (arith, at-tag))
       behind false h q =
-          let r = ltb-false (f .line) k h in
-          let e : f .line ≡ k = omega arith in
-          let z : lineAt (f .line) .tag ≡ lineAt k .tag = ap (λ (j : ℕ). lineAt j .tag) e in
+          let r = ltb-false (f .which) k h in
+          let e : f .which ≡ k = omega arith in
+          let z : lineAt (f .which) .tag ≡ lineAt k .tag = ap (λ (j : ℕ). lineAt j .tag) e in
           absurd (omega (arith, at-tag))
 
-      go : (b : Bool) → ltb k (f .line) ≡ b → LinePasses hasLine look k
-      go true h = f .before k l (ltb-true k (f .line) h)
-      go false h = behind (ltb (f .line) k) refl (ltb-false k (f .line) h)
+      go : (b : Bool) → ltb k (f .which) ≡ b → LinePasses hasLine look k
+      go true h = f .before k l (ltb-true k (f .which) h)
+      go false h = behind (ltb (f .which) k) refl (ltb-false k (f .which) h)
 
 pub lines-in-order : LinesInOrder
 unfolding linesCheck
@@ -128,11 +89,11 @@ lines-in-order hasLine signature header number tag h = go (linesFrom lineAt hasL
     go Pass e =
         let f = first hasLine header (lineCount - signatureCount) signatureCount number tag (sym (both-pass e) ∙ h) in
         inr (record {
-          line = f .line;
+          line = f .which;
           from = f .from;
           within = f .within;
-          tagged = line-place hasLine header (lineAt (f .line)) (f .refused);
-          refused = f .refused;
+          tagged = line-place hasLine header (lineAt (f .which)) (f .fails);
+          refused = f .fails;
           signatures = λ i l. all-pass hasLine signature signatureCount 0 e i (omega arith) l;
           lower = λ i l m t.
               lower hasLine header (lineCount - signatureCount) signatureCount number tag f
@@ -142,10 +103,10 @@ lines-in-order hasLine signature header number tag h = go (linesFrom lineAt hasL
         let behind = linesFrom lineAt hasLine header (lineCount - signatureCount) signatureCount in
         let f = first hasLine signature signatureCount 0 number tag (e ∙ sym (both-fail behind e) ∙ h) in
         inl (record {
-          line = f .line;
+          line = f .which;
           within = f .within;
-          tagged = line-place hasLine signature (lineAt (f .line)) (f .refused);
-          refused = f .refused;
+          tagged = line-place hasLine signature (lineAt (f .which)) (f .fails);
+          refused = f .fails;
           lower = λ i l t.
               lower hasLine signature signatureCount 0 number tag f (λ a b p q r. lawful .signatureRises a b q r) i (omega arith) l t;
         })

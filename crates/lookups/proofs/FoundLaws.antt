@@ -7,52 +7,47 @@ use mathlib.Core.Bool.{Bool, true, false, cond}
 use lib.Dec.{eqb}
 use lib.ListN.{length}
 use native.Mathlib.Omega.{arith}
+use Rattle.format.specs.declared.section.Structure.the-variants.{Signature, Header}
 use Rattle.format.specs.declared.verdict.Verdict.{Verdict}
 use Rattle.format.specs.declared.verdict.Verdict.the-variants.{Pass, Fail}
 use Rattle.format.specs.Sizes.{leadSize}
 use Rattle.format.specs.Places.{sectionEnd}
-use Rattle.format.proofs.VerdictLaws.{both-inverted}
 use Rattle.index.specs.declared.Entry.{Entry}
 use Rattle.index.specs.declared.Found.{Found}
 use Rattle.index.specs.declared.Found.the-variants.{At, Nothing}
 use Rattle.entries.specs.Entries.{recordAt, recordCheck}
-use Rattle.structure.specs.Structure.{structureCheck}
 use Rattle.structure.specs.Sound.{SoundEntry}
 use Rattle.index.specs.Lookup.{entryAt}
 use Rattle.structure.proofs.PassLaws.{structure-header, structure-record}
 use Rattle.structure.proofs.SoundLaws.{record-sound, found-record, record-found}
 use Rattle.lookups.specs.declared.Sought.the-variants.{Here}
-use Rattle.package.specs.Package.{signatureAt, headerStart, headerAt, structureOf}
-use Rattle.package.specs.Package.{structuresCheck, packageCheck, soundCheck}
+use Rattle.package.specs.Package.{signatureAt, headerStart, headerAt, structureFor, structureOf, soundCheck}
+use Rattle.package.proofs.OpenLaws.{sound-signature, sound-header}
 use Rattle.lookups.specs.Lookup.{soughtAs, sought}
 use Rattle.lookups.specs.Theorems.{RecordFor}
 use Rattle.structure.proofs.TagLaws.{for-true, true-for, tags-once}
 
 module _ (s : List ℕ) (h : soundCheck s ≡ Pass) where
-  structures-passed : (structureCheck s (length s) leadSize ≡ Pass)
-      × (structureCheck s (length s) (headerStart (signatureAt s)) ≡ Pass)
-  unfolding packageCheck structuresCheck
-  structures-passed = both-inverted _ _ (both-inverted _ _ (both-inverted _ _ h .1) .1)
-
   pub structure-fits : (which : ℕ) → sectionEnd (structureOf s which) ≤ length s
   structure-fits which = go (eqb which 0)
     where
       go : (b : Bool) → sectionEnd (cond b (signatureAt s) (headerAt s)) ≤ length s
-      go true = structure-header s (length s) leadSize (structures-passed .0) .fits
-      go false = structure-header s (length s) (headerStart (signatureAt s)) (structures-passed .1) .fits
+      go true = structure-header Signature s (length s) leadSize (sound-signature s h) .fits
+      go false = structure-header Header s (length s) (headerStart (signatureAt s)) (sound-header s h) .fits
 
-  pub record-passed : (which k : ℕ) → k < structureOf s which .nindex → recordCheck s (structureOf s which) k ≡ Pass
+  pub record-passed : (which k : ℕ) → k < structureOf s which .nindex
+      → recordCheck (structureFor which) s (structureOf s which) k ≡ Pass
   record-passed which = go (eqb which 0)
     where
       go : (b : Bool) (k : ℕ) → k < cond b (signatureAt s) (headerAt s) .nindex
-          → recordCheck s (cond b (signatureAt s) (headerAt s)) k ≡ Pass
-      go true = structure-record s (length s) leadSize (structures-passed .0)
-      go false = structure-record s (length s) (headerStart (signatureAt s)) (structures-passed .1)
+          → recordCheck (cond b Signature Header) s (cond b (signatureAt s) (headerAt s)) k ≡ Pass
+      go true = structure-record Signature s (length s) leadSize (sound-signature s h)
+      go false = structure-record Header s (length s) (headerStart (signatureAt s)) (sound-header s h)
 
   -- the data of a record lies in the store
   pub entry-sound : (which k : ℕ) → k < structureOf s which .nindex
       → SoundEntry s (sectionEnd (structureOf s which)) (entryAt s (structureOf s which) k)
-  entry-sound which k l = record-sound s _ (structureOf s which) k (omega arith) (record-passed which k l)
+  entry-sound which k l = record-sound (structureFor which) s _ (structureOf s which) k (omega arith) (record-passed which k l)
 
 pub sought-here : (v : Verdict) (found : Found) (entry : Entry) → soughtAs v found ≡ Here entry
     → (v ≡ Pass) × (found ≡ At entry)
@@ -87,7 +82,7 @@ module _ (s : List ℕ) (which tag ty : ℕ) where
       let g = record-of-found (f .0) (f .1) in
       let p = record-passed s h which (g .1) (g .2 .within) in
       let q = record-passed s h which k (r .within) in
-      let e = tags-once s (structureOf s which) (g .1) k p q (g .2 .tagged ∙ sym (r .tagged)) in
+      let e = tags-once (structureFor which) s (structureOf s which) (g .1) k p q (g .2 .tagged ∙ sym (r .tagged)) in
       f .1 ∙ ap Here (g .3 ∙ ap (entryAt s (structureOf s which)) e)
 
   pub found-sound : (entry : Entry) → sought s which tag ty ≡ Here entry

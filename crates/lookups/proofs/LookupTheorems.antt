@@ -12,7 +12,7 @@ use Rattle.index.specs.declared.Found.the-variants.{At, Nothing}
 use Rattle.index.specs.Lookup.{entryAt, findIn}
 use Rattle.lookups.specs.declared.Sought.{Sought}
 use Rattle.lookups.specs.declared.Sought.the-variants.{Here, Refused}
-use Rattle.package.specs.Package.{soundCheck, structureOf}
+use Rattle.package.specs.Package.{soundCheck, structureFor, structureOf}
 use Rattle.lookups.specs.Lookup.{soughtAs, sought, soughtBytes, soughtAnswer, findBytes}
 use Rattle.lookups.specs.Theorems.{RecordFor, LookupExact, LookupRefuses, LookupShows, TagsOnce}
 use Rattle.structure.proofs.TagLaws as tag
@@ -21,7 +21,7 @@ use Rattle.lookups.proofs.FoundLaws.{record-of-found, found-of-record}
 
 pub tags-once : TagsOnce
 tags-once s which j k h l m =
-    tag.tags-once s (structureOf s which) j k (record-passed s h which j l) (record-passed s h which k m)
+    tag.tags-once (structureFor which) s (structureOf s which) j k (record-passed s h which j l) (record-passed s h which k m)
 
 pub lookup-shows : LookupShows
 lookup-shows s which tag ty k h r =

@@ -10,6 +10,7 @@ use mir.Syntax.{w32}
 use mir.Val.{Fits}
 use native.Mathlib.Omega.{arith}
 use Rattle.format.specs.declared.section.Section.{Section}
+use Rattle.format.specs.declared.section.Structure.the-variants.{Signature, Header}
 use Rattle.format.specs.declared.verdict.Verdict.{Verdict}
 use Rattle.format.specs.declared.verdict.Verdict.the-variants.{Pass, Fail}
 use Rattle.format.specs.declared.verdict.Answer.the-variants as answer
@@ -87,8 +88,8 @@ module _ {f found : Sought} (p : found ≡ f) where
 -- an entry that was found is sound
 found-in : (s : List ℕ) (section : Section) (tag ty : ℕ) (entry : Entry) (b : Bool) → soundCheck s ≡ Pass
     → section ≡ cond b (signatureAt s) (headerAt s) → findIn s section tag ty ≡ At entry → SoundEntry s (length s) entry
-found-in s section tag ty entry true h e f = found-sound s (length s) _ tag ty entry (sound-signature s h) (rw e at f)
-found-in s section tag ty entry false h e f = found-sound s (length s) _ tag ty entry (sound-header s h) (rw e at f)
+found-in s section tag ty entry true h e f = found-sound Signature s (length s) _ tag ty entry (sound-signature s h) (rw e at f)
+found-in s section tag ty entry false h e f = found-sound Header s (length s) _ tag ty entry (sound-header s h) (rw e at f)
 
 pub header-found : (s : List ℕ) (tag ty : ℕ) (entry : Entry) → soundCheck s ≡ Pass → findIn s (headerAt s) tag ty ≡ At entry
     → SoundEntry s packageLimit entry

@@ -32,7 +32,7 @@ module _ {number place : ℕ} where
   structures-number : (s : List ℕ) (len : ℕ) → structuresCheck s len ≡ Fail number place → (2 ≤ number) × (number ≤ 13)
   unfolding structuresCheck
   structures-number s len k =
-      let t = both-number 5 13 _ _ k (structure-number s len _) (structure-number s len _) in omega arith
+      let t = both-number 5 13 _ _ k (structure-number _ s len _) (structure-number _ s len _) in omega arith
 
   -- checks 2 to 13
   pub sound-number : (s : List ℕ) → soundCheck s ≡ Fail number place → (2 ≤ number) × (number ≤ 13)

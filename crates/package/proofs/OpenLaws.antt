@@ -8,6 +8,7 @@ use mir.Val.{Fits}
 use native.Mathlib.Omega.{arith}
 use borrow.Author.Tests.{leb-true, eq-eqb, ne-eqb}
 use Rattle.format.specs.declared.section.Section.{Section}
+use Rattle.format.specs.declared.section.Structure.the-variants.{Signature, Header}
 use Rattle.format.specs.declared.lead.Lead.{Lead}
 use Rattle.format.specs.declared.verdict.Verdict.{Verdict}
 use Rattle.format.specs.declared.verdict.Verdict.the-variants.{Pass, Fail}
@@ -28,46 +29,47 @@ use Rattle.package.specs.Package.{sizeCheck, headerStart, signatureAt, h
 use Rattle.package.specs.Package.{packageCheck, soundCheck, openedAs, structuresOpened, opened, sectionFor}
 
 -- the signature as it was checked
-module _ (s : List ℕ) (len : ℕ) {first : ℕ} {a : Checked} (e : first ≡ leadSize) (r : a ≡ structureChecked s len first) where
-  checked-there : a ≡ structureChecked s len leadSize
-  checked-there = r ∙ ap (structureChecked s len) e
+module _ (s : List ℕ) (len : ℕ) {first : ℕ} {a : Checked} (e : first ≡ leadSize)
+    (r : a ≡ structureChecked Signature s len first) where
+  checked-there : a ≡ structureChecked Signature s len leadSize
+  checked-there = r ∙ ap (structureChecked Signature s len) e
 
   pub first-refused : {number place : ℕ} → a ≡ checked.Unsound number place → Unsound number place ≡ structuresOpened s len
   unfolding structuresCheck
   first-refused h = rw (both-fail _ (checked-unsound _ _ (sym checked-there ∙ h)))
 
   module _ {signature : Section} (h : a ≡ checked.Sound signature) where
-    first-sound : (structureCheck s len leadSize ≡ Pass) × (signatureAt s ≡ signature)
+    first-sound : (structureCheck Signature s len leadSize ≡ Pass) × (signatureAt s ≡ signature)
     first-sound = checked-sound _ _ (sym checked-there ∙ h)
 
     pub signature-small : len ≤ packageLimit → sectionEnd signature ≤ packageLimit
     signature-small l =
         let k = first-sound in
-        let b = structure-header s len leadSize (k .0) .fits in
+        let b = structure-header Signature s len leadSize (k .0) .fits in
         rw (← k .1) (omega arith)
 
     -- the header as it was checked
-    module _ {start : ℕ} (g : start ≡ headerStart signature) {b : Checked} (q : b ≡ structureChecked s len start) where
-      second : b ≡ structureChecked s len (headerStart (signatureAt s))
-      second = q ∙ ap (structureChecked s len) (g ∙ ap headerStart (sym (first-sound .1)))
+    module _ {start : ℕ} (g : start ≡ headerStart signature) {b : Checked} (q : b ≡ structureChecked Header s len start) where
+      second : b ≡ structureChecked Header s len (headerStart (signatureAt s))
+      second = q ∙ ap (structureChecked Header s len) (g ∙ ap headerStart (sym (first-sound .1)))
 
       pub second-refused : {number place : ℕ} → b ≡ checked.Unsound number place → Unsound number place ≡ structuresOpened s len
       unfolding structuresCheck
       second-refused k =
-          rw (both-pass {rest = structureCheck s len (headerStart (signatureAt s))} (first-sound .0)
+          rw (both-pass {rest = structureCheck Header s len (headerStart (signatureAt s))} (first-sound .0)
           ∙ checked-unsound _ (headerAt s) (sym second ∙ k))
 
       pub both-sound : {header : Section} → b ≡ checked.Sound header → Sound signature header ≡ structuresOpened s len
       unfolding structuresCheck
       both-sound k =
-          let m = checked-sound (structureCheck s len (headerStart (signatureAt s))) (headerAt s) (sym second ∙ k) in
-          rw (both-pass {rest = structureCheck s len (headerStart (signatureAt s))} (first-sound .0), m .0)
+          let m = checked-sound (structureCheck Header s len (headerStart (signatureAt s))) (headerAt s) (sym second ∙ k) in
+          rw (both-pass {rest = structureCheck Header s len (headerStart (signatureAt s))} (first-sound .0), m .0)
           (cc (first-sound .1, m .1))
 
 -- what passing checks 2 to 13 says
 module _ (s : List ℕ) (h : soundCheck s ≡ Pass) where
-  blocks : (sizeCheck (length s) ≡ Pass) × (structureCheck s (length s) leadSize ≡ Pass)
-      × (structureCheck s (length s) (headerStart (signatureAt s)) ≡ Pass)
+  blocks : (sizeCheck (length s) ≡ Pass) × (structureCheck Signature s (length s) leadSize ≡ Pass)
+      × (structureCheck Header s (length s) (headerStart (signatureAt s)) ≡ Pass)
   unfolding packageCheck structuresCheck
   blocks =
       let k = both-inverted _ _ h in
@@ -78,10 +80,10 @@ module _ (s : List ℕ) (h : soundCheck s ≡ Pass) where
   unfolding sizeCheck
   sound-size = leb-true _ _ (inverted _ _ _ _ (blocks .0) .0)
 
-  pub sound-signature : structureCheck s (length s) leadSize ≡ Pass
+  pub sound-signature : structureCheck Signature s (length s) leadSize ≡ Pass
   sound-signature = blocks .1
 
-  pub sound-header : structureCheck s (length s) (headerStart (signatureAt s)) ≡ Pass
+  pub sound-header : structureCheck Header s (length s) (headerStart (signatureAt s)) ≡ Pass
   sound-header = blocks .2
 
 -- size and lead first

@@ -5,6 +5,8 @@ use mathlib.Core.Bool.{cond}
 use lib.ListN.{length}
 use lib.Dec.{eqb, leb}
 use Rattle.format.specs.declared.section.Section.{Section}
+use Rattle.format.specs.declared.section.Structure.{Structure}
+use Rattle.format.specs.declared.section.Structure.the-variants.{Signature, Header}
 use Rattle.format.specs.declared.verdict.Verdict.{Verdict}
 use Rattle.format.specs.declared.verdict.Verdict.the-variants.{Pass, Fail}
 use Rattle.format.specs.Sizes.{packageLimit, leadSize}
@@ -37,7 +39,7 @@ headerAt s = sectionAt s (headerStart (signatureAt s))
 -- 5 to 13 for the signature, then for the header
 unfoldable pub structuresCheck : List ℕ → ℕ → Verdict
 structuresCheck s len =
-    both (structureCheck s len leadSize) (structureCheck s len (headerStart (signatureAt s)))
+    both (structureCheck Signature s len leadSize) (structureCheck Header s len (headerStart (signatureAt s)))
 
 -- 2 to 13
 unfoldable pub packageCheck : List ℕ → ℕ → Verdict
@@ -47,6 +49,9 @@ abbrev pub soundCheck : List ℕ → Verdict
 soundCheck s = packageCheck s (length s)
 
 -- structure 0 is the signature, any other number the header
+abbrev pub structureFor : ℕ → Structure
+structureFor which = cond (eqb which 0) Signature Header
+
 abbrev pub sectionFor : ℕ → Section → Section → Section
 sectionFor which signature header = cond (eqb which 0) signature header
 

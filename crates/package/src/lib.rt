@@ -8,6 +8,7 @@ ghost use Rattle.package.specs.Lead.{leadCheck};
 ghost use Rattle.package.specs.Package.{sizeCheck, headerStart, structuresOpened, opened, sectionFor};
 use format::Lead;
 use format::Section;
+use format::Structure;
 use format::Verdict;
 use places::FileOffset;
 use places::Start;
@@ -74,12 +75,12 @@ fn structures(pkg: &[u8], len: u32) -> Opened
     requires { ⌜ len ≤ packageLimit ⌝ }
     ensures { λ r. ⌜ r ≡ structuresOpened (now (pkg .entry)) len ⌝ }
 {
-    let first = structure::check(pkg, len, Start::of(Lead::SIZE as u32));
+    let first = structure::check(Structure::Signature, pkg, len, Start::of(Lead::SIZE as u32));
     match first {
         Checked::Unsound(number, place) => Opened::Unsound(number, place),
         Checked::Sound(signature) => {
             let start = header_start(signature);
-            let second = structure::check(pkg, len, start);
+            let second = structure::check(Structure::Header, pkg, len, start);
             match second {
                 Checked::Unsound(number, place) => Opened::Unsound(number, place),
                 Checked::Sound(header) => Opened::Sound(signature, header),

@@ -45,8 +45,8 @@ module _ (name sig sigs head heads : List ℕ) where
       let d = both-inverted _ _ (c .1) in
       let e = entries-total sig sigs (length sig / 16) 0 0 in
       let f = entries-total head heads (length head / 16) 0 0 in
-      let i = list-right _ .0 (d .0) .within in
-      let j = list-right _ .0 (d .1) .within in
+      let i = list-right _ _ .0 (d .0) .within in
+      let j = list-right _ _ .0 (d .1) .within in
       record {
         signed = form-right sig sigs .0 (a .0) .meet;
         headed = form-right head heads .0 (b .0) .meet;

@@ -1,5 +1,5 @@
 -- The reasons of 32, for each way through the functions that test them: an entry's type and data, by its element size
--- (lawful, exact-fixed, exact-strings, exact-unlawful), its tag (repeated-own, own-other, own-none, repeated), each entry in
+-- (lawful, exact-fixed, exact-strings, exact-unlawful), its tag (own-signed, own-headed, repeated-own, repeated), each entry in
 -- turn (entries-begun, entries-turn, entries-ends, entries-spent), the writer's own entry (own-passes), and a zero in a name
 -- (zero-found).
 use Prim.Native.Nat.{ℕ, zero, suc, _+_, _-_, _*_, _≤_, _<_}
@@ -10,11 +10,12 @@ use lib.ListN.{length, take, drop}
 use lib.Dec.{eqb}
 use native.Mathlib.Nat.{sub-zero}
 use native.Mathlib.Numerals.{add-one}
-use borrow.Author.Tests.{ne-eqb}
 use Rattle.be.specs.Numbers.{be32At}
 use Rattle.strings.specs.declared.Ending.{Ending}
 use Rattle.strings.specs.declared.Ending.the-variants.{Ends}
 use Rattle.strings.specs.Strings.{stringsFrom, isEnded}
+use Rattle.format.specs.declared.section.Structure.{Structure}
+use Rattle.format.specs.declared.section.Structure.the-variants.{Signature, Header}
 use Rattle.format.specs.declared.verdict.Verdict.{Verdict}
 use Rattle.format.specs.declared.verdict.Verdict.the-variants.{Pass, Fail}
 use Rattle.format.specs.Verdicts.{check, both}
@@ -53,80 +54,84 @@ module _ (ty : ℕ) {k : ElementSize} (q : k ≡ elementSize ty) where
     exact-unlawful h = rw (← q, h)
 
 -- the tags before an entry: those of the entries before it, and the writer's own
-tags-before : (own : Bool) (list : List ℕ) (tag i : ℕ)
-    → tagIn tag (tagsBefore own list i) ≡ (tagAmong list i tag || tagIn tag (ownTags own))
+tags-before : (structure : Structure) (list : List ℕ) (tag i : ℕ)
+    → tagIn tag (tagsBefore structure list i) ≡ (tagAmong list i tag || tagIn tag (ownTags structure))
 unfolding tagIn tagsBefore tagAmong
-tags-before own list tag zero = refl
-tags-before own list tag (suc i) =
-    rw (tags-before own list tag i)
-    (sym (or-assoc (eqb (be32At list (16 * i)) tag) (tagAmong list i tag) (tagIn tag (ownTags own))))
+tags-before structure list tag zero = refl
+tags-before structure list tag (suc i) =
+    rw (tags-before structure list tag i)
+    (sym (or-assoc (eqb (be32At list (16 * i)) tag) (tagAmong list i tag) (tagIn tag (ownTags structure))))
 
-pub repeated-own : {own : Bool} (list : List ℕ) {tag : ℕ} (i : ℕ) → own ≡ true → tag ≡ sizeTag
-    → true ≡ tagIn tag (tagsBefore own list i)
-unfolding tagIn
-repeated-own {own} list {tag} i h e = sym (tags-before own list tag i ∙ rw (h, e) (or-true (tagAmong list i sizeTag)))
+-- the writer's own, by the structure
+module _ {structure : Structure} (tag : ℕ) where
+  pub own-signed : structure ≡ Signature → eqb sizeTag tag ≡ tagIn tag (ownTags structure)
+  unfolding tagIn
+  own-signed h = rw h (sym (or-false (eqb sizeTag tag)))
 
-pub own-other : {own : Bool} (tag : ℕ) → own ≡ true → (tag ≡ sizeTag → ⊥) → tagIn tag (ownTags own) ≡ false
-unfolding tagIn
-own-other tag h k = rw (h, ne-eqb sizeTag tag (λ q. k (sym q)))
+  pub own-headed : structure ≡ Header → false ≡ tagIn tag (ownTags structure)
+  unfolding tagIn
+  own-headed h = rw h
 
-pub own-none : {own : Bool} (tag : ℕ) → own ≡ false → tagIn tag (ownTags own) ≡ false
-unfolding tagIn
-own-none tag h = rw h
+-- o is whether the writer's own has the tag
+module _ (structure : Structure) (list : List ℕ) (tag i : ℕ) {o : Bool} (q : o ≡ tagIn tag (ownTags structure)) where
+  pub repeated-own : o ≡ true → true ≡ tagIn tag (tagsBefore structure list i)
+  repeated-own h = sym (tags-before structure list tag i ∙ rw (sym q ∙ h) (or-true (tagAmong list i tag)))
 
-pub repeated : (own : Bool) (list : List ℕ) (tag i : ℕ) {r : Bool} → tagIn tag (ownTags own) ≡ false
-    → r ≡ tagAmong list i tag → r ≡ tagIn tag (tagsBefore own list i)
-repeated own list tag i h e = e ∙ sym (tags-before own list tag i ∙ rw h (or-false (tagAmong list i tag)))
+  pub repeated : {r : Bool} → o ≡ false → r ≡ tagAmong list i tag → r ≡ tagIn tag (tagsBefore structure list i)
+  repeated h e = e ∙ sym (tags-before structure list tag i ∙ rw (sym q ∙ h) (or-false (tagAmong list i tag)))
 
 -- each entry in turn
-step : (seen : List ℕ) (entry : ListEntry) (rest : List ListEntry)
-    → entriesReasons seen (entry ∷ rest) ≡ both (entryReasons seen entry) (entriesReasons (entry .tag ∷ seen) rest)
+step : (structure : Structure) (seen : List ℕ) (entry : ListEntry) (rest : List ListEntry)
+    → entriesReasons structure seen (entry ∷ rest)
+    ≡ both (entryReasons structure seen entry) (entriesReasons structure (entry .tag ∷ seen) rest)
 unfolding entriesReasons
-step seen entry rest = refl
+step structure seen entry rest = refl
 
-none : (seen : List ℕ) → entriesReasons seen [] ≡ Pass
+none : (structure : Structure) (seen : List ℕ) → entriesReasons structure seen [] ≡ Pass
 unfolding entriesReasons
-none seen = refl
+none structure seen = refl
 
-next : (own : Bool) (list : List ℕ) (i : ℕ) → be32At list (16 * i) ∷ tagsBefore own list i ≡ tagsBefore own list (i + 1)
+next : (structure : Structure) (list : List ℕ) (i : ℕ)
+    → be32At list (16 * i) ∷ tagsBefore structure list i ≡ tagsBefore structure list (i + 1)
 unfolding tagsBefore
-next own list i = rw (add-one i)
+next structure list i = rw (add-one i)
 
-pub entries-begun : (own : Bool) (list row : List ℕ) (n : ℕ)
-    → entriesReasons (ownTags own) (entriesFrom list row n 0 0)
-    ≡ entriesReasons (tagsBefore own list 0) (entriesFrom list row (n - 0) 0 0)
+pub entries-begun : (structure : Structure) (list row : List ℕ) (n : ℕ)
+    → entriesReasons structure (ownTags structure) (entriesFrom list row n 0 0)
+    ≡ entriesReasons structure (tagsBefore structure list 0) (entriesFrom list row (n - 0) 0 0)
 unfolding tagsBefore
-entries-begun own list row n = rw sub-zero
+entries-begun structure list row n = rw sub-zero
 
 -- in the shape of what is known in a turn: v is what the run began with, e and bytes are entry i, r is what it found
-module _ (own : Bool) (list row : List ℕ) (n i at : ℕ) {v : Verdict}
-    (inv : v ≡ entriesReasons (tagsBefore own list i) (entriesFrom list row (n - i) i at)) where
+module _ (structure : Structure) (list row : List ℕ) (n i at : ℕ) {v : Verdict}
+    (inv : v ≡ entriesReasons structure (tagsBefore structure list i) (entriesFrom list row (n - i) i at)) where
   module _ (w : 16 * n ≤ length list) {e : ListRecord} {bytes : List ℕ} {r : Verdict} (f : e ≡ recordShown list i)
       (b : bytes ≡ take (e .size) (drop at row))
-      (h : r ≡ entryReasons (tagsBefore own list i) (entryOf e bytes)) (l : i < n) where
+      (h : r ≡ entryReasons structure (tagsBefore structure list i) (entryOf e bytes)) (l : i < n) where
     p : e ≡ listRecordAt list i
     p = record-whole list n i w l f
 
-    begun : v ≡ both r (entriesReasons (tagsBefore own list (i + 1))
+    begun : v ≡ both r (entriesReasons structure (tagsBefore structure list (i + 1))
         (entriesFrom list row (n - (i + 1)) (i + 1) (at + sizeAt list i)))
     begun =
-        let q : r ≡ entryReasons (tagsBefore own list i) (entryAt list row i at) = h ∙ rw (b, p) in
+        let q : r ≡ entryReasons structure (tagsBefore structure list i) (entryAt list row i at) = h ∙ rw (b, p) in
         inv ∙ rw (entries-step list row n i at l)
-        (step (tagsBefore own list i) (entryAt list row i at) _ ∙ rw (← q, next own list i))
+        (step structure (tagsBefore structure list i) (entryAt list row i at) _ ∙ rw (← q, next structure list i))
 
     pub entries-turn : r ≡ Pass
-        → v ≡ entriesReasons (tagsBefore own list (i + 1)) (entriesFrom list row (n - (i + 1)) (i + 1) (at + e .size))
+        → v ≡ entriesReasons structure (tagsBefore structure list (i + 1))
+        (entriesFrom list row (n - (i + 1)) (i + 1) (at + e .size))
     entries-turn k = begun ∙ both-pass k ∙ rw p
 
     pub entries-ends : {number place : ℕ} → r ≡ Fail number place → Fail number place ≡ v
     entries-ends k = sym (begun ∙ both-fail _ k)
 
   pub entries-spent : n ≤ i → Pass ≡ v
-  entries-spent l = sym (inv ∙ rw (entries-none list row n i at l) (none (tagsBefore own list i)))
+  entries-spent l = sym (inv ∙ rw (entries-none list row n i at l) (none structure (tagsBefore structure list i)))
 
 -- the writer's own entry passes, whatever its number
 pub own-passes : (size : ℕ) (rest : List ListEntry)
-    → entriesReasons [] (sizeEntry size ∷ rest) ≡ entriesReasons (ownTags true) rest
+    → entriesReasons Signature [] (sizeEntry size ∷ rest) ≡ entriesReasons Signature (ownTags Signature) rest
 unfolding bytesOf entriesReasons entryReasons check both elementSize countRight dataExact tagIn
 own-passes size rest = refl
 

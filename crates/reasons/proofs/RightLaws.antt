@@ -8,6 +8,8 @@ use mathlib.Core.Bool.{true, false, not}
 use lib.ListN.{length}
 use borrow.Author.Tests.{eqb-true, eq-eqb, leb-true, le-leb, not-true}
 use Rattle.format.specs.Sizes.{nindexLimit}
+use Rattle.format.specs.declared.section.Structure.{Structure}
+use Rattle.format.specs.declared.section.Structure.the-variants.{Signature}
 use Rattle.format.specs.declared.verdict.Verdict.the-variants.{Pass}
 use Rattle.format.proofs.VerdictLaws.{passed, inverted, both-pass, both-inverted}
 use Rattle.entries.specs.Entries.{typeLawful, countRight}
@@ -16,16 +18,17 @@ use Rattle.reasons.specs.Reasons.{recordOf, dataExact, tagIn, entryReaso
 use Rattle.reasons.specs.Reasons.{formReasons}
 use Rattle.reasons.proofs.ReasonLaws.{own-passes}
 
--- an entry behind others, of which the tags are given
-pub record EntryRight (seen : List ℕ) (entry : ListEntry) : Type 0 where
+-- an entry of a structure behind others, of which the tags are given
+pub record EntryRight (structure : Structure) (seen : List ℕ) (entry : ListEntry) : Type 0 where
   pub typed : typeLawful (recordOf entry 0) ≡ true
-  pub counted : countRight (recordOf entry 0) ≡ true
+  pub counted : countRight structure (recordOf entry 0) ≡ true
   pub exact : dataExact (entry .ty) (entry .count) (entry .bytes) ≡ true
   pub fresh : tagIn (entry .tag) seen ≡ false
 
-pub entry-right : (seen : List ℕ) (entry : ListEntry) → (entryReasons seen entry ≡ Pass) ↔ EntryRight seen entry
+pub entry-right : (structure : Structure) (seen : List ℕ) (entry : ListEntry)
+    → (entryReasons structure seen entry ≡ Pass) ↔ EntryRight structure seen entry
 unfolding entryReasons
-entry-right seen entry = (
+entry-right structure seen entry = (
   λ h.
       let a = inverted _ _ _ _ h in
       let b = inverted _ _ _ _ (a .1) in
@@ -36,23 +39,24 @@ entry-right seen entry = (
 )
 
 -- some entries: the first, and those behind it
-pub entries-right : (seen : List ℕ) (entry : ListEntry) (rest : List ListEntry)
-    → (entriesReasons seen (entry ∷ rest) ≡ Pass)
-    ↔ (EntryRight seen entry × (entriesReasons (entry .tag ∷ seen) rest ≡ Pass))
+pub entries-right : (structure : Structure) (seen : List ℕ) (entry : ListEntry) (rest : List ListEntry)
+    → (entriesReasons structure seen (entry ∷ rest) ≡ Pass)
+    ↔ (EntryRight structure seen entry × (entriesReasons structure (entry .tag ∷ seen) rest ≡ Pass))
 unfolding entriesReasons
-entries-right seen entry rest = (
-  λ h. let k = both-inverted _ _ h in (entry-right seen entry .0 (k .0), k .1),
-  λ h. both-pass (entry-right seen entry .1 (h .0)) ∙ h .1,
+entries-right structure seen entry rest = (
+  λ h. let k = both-inverted _ _ h in (entry-right structure seen entry .0 (k .0), k .1),
+  λ h. both-pass (entry-right structure seen entry .1 (h .0)) ∙ h .1,
 )
 
-pub record ListRight (entries : List ListEntry) : Type 0 where
+pub record ListRight (structure : Structure) (entries : List ListEntry) : Type 0 where
   pub some : 1 ≤ length entries
   pub within : length entries ≤ nindexLimit
-  pub each : entriesReasons [] entries ≡ Pass
+  pub each : entriesReasons structure [] entries ≡ Pass
 
-pub list-right : (entries : List ListEntry) → (listReasons entries ≡ Pass) ↔ ListRight entries
+pub list-right : (structure : Structure) (entries : List ListEntry)
+    → (listReasons structure entries ≡ Pass) ↔ ListRight structure entries
 unfolding listReasons
-list-right entries = (
+list-right structure entries = (
   λ h.
       let a = inverted _ _ _ _ h in
       let b = inverted _ _ _ _ (a .1) in
@@ -61,8 +65,8 @@ list-right entries = (
 )
 
 -- 1000 passes whatever its number is
-pub size-right : (size : ℕ) (entries : List ListEntry) → ListRight (sizeEntry 0 ∷ entries)
-    → ListRight (sizeEntry size ∷ entries)
+pub size-right : (size : ℕ) (entries : List ListEntry) → ListRight Signature (sizeEntry 0 ∷ entries)
+    → ListRight Signature (sizeEntry size ∷ entries)
 size-right size entries r =
     record {
       some = r .some;

@@ -1,7 +1,7 @@
 -- Request 1: the reasons of refusal 32, which is placed at 0.
 use Prim.Native.Nat.{ℕ, zero, suc, _*_}
 use mathlib.Core.List.{List, [], _∷_}
-use mathlib.Core.Bool.{Bool, true, false, not, _||_}
+use mathlib.Core.Bool.{Bool, false, not, _||_}
 use lib.ListN.{length}
 use lib.Dec.{eqb, leb}
 use Rattle.be.specs.Numbers.{be32At}
@@ -9,6 +9,8 @@ use Rattle.strings.specs.declared.Ending.{Ending}
 use Rattle.strings.specs.declared.Ending.the-variants.{Ends, Open}
 use Rattle.strings.specs.Strings.{stringsFrom, isEnded}
 use Rattle.format.specs.Sizes.{nindexLimit}
+use Rattle.format.specs.declared.section.Structure.{Structure}
+use Rattle.format.specs.declared.section.Structure.the-variants.{Signature, Header}
 use Rattle.format.specs.declared.records.IndexRecord.{IndexRecord}
 use Rattle.format.specs.declared.verdict.Verdict.{Verdict}
 use Rattle.format.specs.declared.verdict.Verdict.the-variants.{Pass}
@@ -43,25 +45,26 @@ unfoldable pub tagIn : ℕ → List ℕ → Bool
 tagIn tag [] = false
 tagIn tag (first ∷ rest) = eqb first tag || tagIn tag rest
 
--- an entry, behind others of which the tags are given: checks 9 and 10, its data, check 13
-unfoldable pub entryReasons : List ℕ → ListEntry → Verdict
-entryReasons seen entry =
+-- an entry of a structure, behind others of which the tags are given: checks 9 and 10, its data, check 13
+unfoldable pub entryReasons : Structure → List ℕ → ListEntry → Verdict
+entryReasons structure seen entry =
     check (typeLawful (recordOf entry 0)) 32 0
-    (check (countRight (recordOf entry 0)) 32 0
+    (check (countRight structure (recordOf entry 0)) 32 0
     (check (dataExact (entry .ty) (entry .count) (entry .bytes)) 32 0
     (check (not (tagIn (entry .tag) seen)) 32 0
     Pass)))
 
-unfoldable pub entriesReasons : List ℕ → List ListEntry → Verdict
-entriesReasons seen [] = Pass
-entriesReasons seen (entry ∷ rest) = both (entryReasons seen entry) (entriesReasons (entry .tag ∷ seen) rest)
+unfoldable pub entriesReasons : Structure → List ℕ → List ListEntry → Verdict
+entriesReasons structure seen [] = Pass
+entriesReasons structure seen (entry ∷ rest) =
+    both (entryReasons structure seen entry) (entriesReasons structure (entry .tag ∷ seen) rest)
 
--- a list: in range for check 7, and each of its entries
-unfoldable pub listReasons : List ListEntry → Verdict
-listReasons entries =
+-- a structure's list: in range for check 7, and each of its entries
+unfoldable pub listReasons : Structure → List ListEntry → Verdict
+listReasons structure entries =
     check (leb 1 (length entries)) 32 0
     (check (leb (length entries) nindexLimit) 32 0
-    (entriesReasons [] entries))
+    (entriesReasons structure [] entries))
 
 -- the writer puts 1000 first in the signature itself: int32, count 1
 abbrev pub sizeTag : ℕ
@@ -98,14 +101,14 @@ reasons name signature signatureRow header headerRow =
     both (formReasons signature signatureRow)
     (both (formReasons header headerRow)
     (both (nameReasons name)
-    (both (listReasons (sizeEntry 0 ∷ entriesOf signature signatureRow))
-    (listReasons (entriesOf header headerRow)))))
+    (both (listReasons Signature (sizeEntry 0 ∷ entriesOf signature signatureRow))
+    (listReasons Header (entriesOf header headerRow)))))
 
--- for the walk over a lent list: the tags before entry i, with that of the writer's own entry where it comes first
-abbrev pub ownTags : Bool → List ℕ
-ownTags true = sizeTag ∷ []
-ownTags false = []
+-- for the walk over a structure's lent list: the tags before entry i, with that of the writer's own entry in the signature
+abbrev pub ownTags : Structure → List ℕ
+ownTags Signature = sizeTag ∷ []
+ownTags Header = []
 
-unfoldable pub tagsBefore : Bool → List ℕ → ℕ → List ℕ
-tagsBefore own list zero = ownTags own
-tagsBefore own list (suc i) = be32At list (16 * i) ∷ tagsBefore own list i
+unfoldable pub tagsBefore : Structure → List ℕ → ℕ → List ℕ
+tagsBefore structure list zero = ownTags structure
+tagsBefore structure list (suc i) = be32At list (16 * i) ∷ tagsBefore structure list i

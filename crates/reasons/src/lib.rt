@@ -3,6 +3,7 @@ ghost use mathlib.Core.Path.{_≡_};
 ghost use mathlib.Core.List.{_∷_};
 ghost use Prim.Native.Nat.{_/_, _≤_};
 ghost use lib.ListN.{length};
+ghost use Rattle.format.specs.declared.section.Structure.the-variants.{Signature, Header};
 ghost use Rattle.lists.specs.Lists.{entryOf, entriesOf};
 ghost use Rattle.entries.specs.Types.{elementSize};
 ghost use Rattle.reasons.specs.Reasons.{endsAt, dataExact, tagIn, tagsBefore, ownTags, entryReasons, entriesReasons, listReasons, sizeEntry, nameReasons, formReasons, reasons};
@@ -11,6 +12,7 @@ use entries::types::element_size;
 use entries::types::is_lawful;
 use format::HeaderRecord;
 use format::IndexRecord;
+use format::Structure;
 use format::Verdict;
 use lists::ListRecord;
 use places::StoreOffset;
@@ -50,21 +52,29 @@ fn data_exact(e: ListRecord, size: ElementSize, bytes: &[u8]) -> bool
     }
 }
 
-// Whether one of the first `i` entries of a list, or the writer's own where that comes first, has the tag.
-fn is_repeated(list: &[u8], own: bool, i: u32, tag: u32) -> bool
-    ensures { λ r. ⌜ r ≡ tagIn tag (tagsBefore own (now (list .entry)) i) ⌝ }
+// Whether the writer's own entry, in the signature, has the tag.
+fn is_own(structure: Structure, tag: u32) -> bool
+    ensures { λ r. ⌜ r ≡ tagIn tag (ownTags structure) ⌝ }
 {
-    if own {
-        if tag == SIZE_TAG {
-            return true;
-        }
+    match structure {
+        Structure::Signature => SIZE_TAG == tag,
+        Structure::Header => false,
+    }
+}
+
+// Whether the writer's own entry, or one of the first `i` entries of a list, has the tag.
+fn is_repeated(structure: Structure, list: &[u8], i: u32, tag: u32) -> bool
+    ensures { λ r. ⌜ r ≡ tagIn tag (tagsBefore structure (now (list .entry)) i) ⌝ }
+{
+    if is_own(structure, tag) {
+        return true;
     }
     repeats::tag_among(list, i, tag)
 }
 
-// The reasons of entry `i` of a list, of its 16 bytes and its data.
-fn entry_check(list: &[u8], own: bool, i: u32, e: ListRecord, bytes: &[u8]) -> Verdict
-    ensures { λ r. ⌜ r ≡ entryReasons (tagsBefore own (now (list .entry)) i) (entryOf e (now (bytes .entry))) ⌝ }
+// The reasons of entry `i` of a structure's list, of its 16 bytes and its data.
+fn entry_check(structure: Structure, list: &[u8], i: u32, e: ListRecord, bytes: &[u8]) -> Verdict
+    ensures { λ r. ⌜ r ≡ entryReasons structure (tagsBefore structure (now (list .entry)) i) (entryOf e (now (bytes .entry))) ⌝ }
 {
     let record = IndexRecord {
         tag: e.tag,
@@ -76,22 +86,22 @@ fn entry_check(list: &[u8], own: bool, i: u32, e: ListRecord, bytes: &[u8]) -> V
     if !is_lawful(size) {
         return Verdict::Fail(32, 0);
     }
-    if !entries::count_right(record) {
+    if !entries::count_right(structure, record) {
         return Verdict::Fail(32, 0);
     }
     if !data_exact(e, size, bytes) {
         return Verdict::Fail(32, 0);
     }
-    if is_repeated(list, own, i, e.tag) {
+    if is_repeated(structure, list, i, e.tag) {
         return Verdict::Fail(32, 0);
     }
     Verdict::Pass
 }
 
-// The reasons of each entry of a list in turn.
-fn entries_check(list: &[u8], row: &[u8], own: bool) -> Verdict
+// The reasons of each entry of a structure's list in turn.
+fn entries_check(structure: Structure, list: &[u8], row: &[u8]) -> Verdict
     requires { ⌜ length (now list) / 16 ≤ 512 ⌝ }
-    ensures { λ r. ⌜ r ≡ entriesReasons (ownTags own) (entriesOf (now (list .entry)) (now (row .entry))) ⌝ }
+    ensures { λ r. ⌜ r ≡ entriesReasons structure (ownTags structure) (entriesOf (now (list .entry)) (now (row .entry))) ⌝ }
 {
     let n = (list.len() / ListRecord::SIZE) as u32;
     let mut at = 0;
@@ -100,7 +110,7 @@ fn entries_check(list: &[u8], row: &[u8], own: bool) -> Verdict
         let e = lists::entry(list, i);
         let size = e.size as usize;
         let bytes = be::part(row, at, size);
-        let v = entry_check(list, own, i, e, bytes);
+        let v = entry_check(structure, list, i, e, bytes);
         if let Verdict::Fail(number, place) = v {
             return Verdict::Fail(number, place);
         }
@@ -112,17 +122,17 @@ fn entries_check(list: &[u8], row: &[u8], own: bool) -> Verdict
 
 // The reasons of the signature's list, with the 1000 that comes first, whatever its number.
 fn signature_check(list: &[u8], row: &[u8]) -> Verdict
-    ensures { λ r. ⌜ r ≡ listReasons (sizeEntry 0 ∷ entriesOf (now (list .entry)) (now (row .entry))) ⌝ }
+    ensures { λ r. ⌜ r ≡ listReasons Signature (sizeEntry 0 ∷ entriesOf (now (list .entry)) (now (row .entry))) ⌝ }
 {
     if HeaderRecord::NINDEX_LIMIT as usize <= list.len() / ListRecord::SIZE {
         return Verdict::Fail(32, 0);
     }
-    entries_check(list, row, true)
+    entries_check(Structure::Signature, list, row)
 }
 
 // The reasons of the header's list.
 fn header_check(list: &[u8], row: &[u8]) -> Verdict
-    ensures { λ r. ⌜ r ≡ listReasons (entriesOf (now (list .entry)) (now (row .entry))) ⌝ }
+    ensures { λ r. ⌜ r ≡ listReasons Header (entriesOf (now (list .entry)) (now (row .entry))) ⌝ }
 {
     let n = list.len() / ListRecord::SIZE;
     if n < 1 {
@@ -131,7 +141,7 @@ fn header_check(list: &[u8], row: &[u8]) -> Verdict
     if (HeaderRecord::NINDEX_LIMIT as usize) < n {
         return Verdict::Fail(32, 0);
     }
-    entries_check(list, row, false)
+    entries_check(Structure::Header, list, row)
 }
 
 // The reasons of a name.

@@ -10,6 +10,8 @@ use lib.Dec.{eqb}
 use native.Mathlib.Omega.{arith}
 use borrow.Author.Tests.{eqb-true, eqb-false, eq-eqb}
 use Rattle.format.specs.Sizes.{nindexLimit}
+use Rattle.format.specs.declared.section.Structure.{Structure}
+use Rattle.format.specs.declared.section.Structure.the-variants.{Signature, Header}
 use Rattle.format.specs.declared.verdict.Verdict.the-variants.{Pass}
 use Rattle.entries.specs.declared.types.ElementSize.{ElementSize}
 use Rattle.entries.specs.declared.types.ElementSize.the-variants.{Bytes, ToZero, Unlawful}
@@ -47,17 +49,18 @@ module _ (count : ℕ) (bytes : List ℕ) where
   exact-lawful Unlawful t = let z : _≡_ {A = ℕ} 0 1 = cc in absurd (omega arith)
 
 -- one entry
-entry-lawful : (seen : List ℕ) (entry : ListEntry)
-    → EntryRight seen entry ↔ (LawfulEntry entry × (tagIn (entry .tag) seen ≡ false))
+entry-lawful : (structure : Structure) (seen : List ℕ) (entry : ListEntry)
+    → EntryRight structure seen entry ↔ (LawfulEntry structure entry × (tagIn (entry .tag) seen ≡ false))
 unfolding dataExact
-entry-lawful seen entry = (
+entry-lawful structure seen entry = (
   λ r.
-      let c = count-lawful (recordOf entry 0) .0 (r .counted) in
+      let c = count-lawful (recordOf entry 0) structure .0 (r .counted) in
       let x = exact-lawful (entry .count) (entry .bytes) (elementSize (entry .ty)) (r .typed) .0 (r .exact) in (
         record {
           type′ = type-lawful (entry .ty) .0 (r .typed);
           count = c .0;
           single = c .1;
+          translated = c .2;
           fixed = x .0;
           strings = x .1;
         },
@@ -68,7 +71,7 @@ entry-lawful seen entry = (
       let t = type-lawful (entry .ty) .1 (l .type′) in
       record {
         typed = t;
-        counted = count-lawful (recordOf entry 0) .1 (l .count, l .single);
+        counted = count-lawful (recordOf entry 0) structure .1 (l .count, l .single, l .translated);
         exact = exact-lawful (entry .count) (entry .bytes) (elementSize (entry .ty)) t .1 (l .fixed, l .strings);
         fresh = h .1;
       },
@@ -94,13 +97,13 @@ abbrev Fresh : List ℕ → List ListEntry → Type 0
 Fresh seen entries = (i : ℕ) → i < length entries → tagIn (nth entries i .tag) seen ≡ false
 
 -- some entries behind others: the first, and those behind it
-module _ (seen : List ℕ) (entry : ListEntry) (rest : List ListEntry) where
-  module _ (l : LawfulEntry entry) (f : tagIn (entry .tag) seen ≡ false) (ls : LawfulEntries rest)
+module _ (structure : Structure) (seen : List ℕ) (entry : ListEntry) (rest : List ListEntry) where
+  module _ (l : LawfulEntry structure entry) (f : tagIn (entry .tag) seen ≡ false) (ls : LawfulEntries structure rest)
       (fs : Fresh (entry .tag ∷ seen) rest) where
     apart : (i : ℕ) → i < length rest → (entry .tag ≢ nth rest i .tag) × (tagIn (nth rest i .tag) seen ≡ false)
     apart i m = fresh-step (nth rest i .tag) (entry .tag) seen .0 (fs i m)
 
-    each : (i : ℕ) → i < length (entry ∷ rest) → LawfulEntry (nth (entry ∷ rest) i)
+    each : (i : ℕ) → i < length (entry ∷ rest) → LawfulEntry structure (nth (entry ∷ rest) i)
     each zero m = l
     each (suc i) m = ls .each i (omega arith)
 
@@ -114,8 +117,8 @@ module _ (seen : List ℕ) (entry : ListEntry) (rest : List ListEntry) where
     fresh (suc i) m = apart i (omega arith) .1
 
   entries-step :
-      ((LawfulEntry entry × (tagIn (entry .tag) seen ≡ false)) × (LawfulEntries rest × Fresh (entry .tag ∷ seen) rest))
-      ↔ (LawfulEntries (entry ∷ rest) × Fresh seen (entry ∷ rest))
+      ((LawfulEntry structure entry × (tagIn (entry .tag) seen ≡ false)) × (LawfulEntries structure rest × Fresh (entry .tag ∷ seen) rest))
+      ↔ (LawfulEntries structure (entry ∷ rest) × Fresh seen (entry ∷ rest))
   entries-step = (
     λ h.
         let l = h .0 .0 in
@@ -138,32 +141,32 @@ module _ (seen : List ℕ) (entry : ListEntry) (rest : List ListEntry) where
         ),
   )
 
-none-pass : (seen : List ℕ) → entriesReasons seen [] ≡ Pass
+none-pass : (structure : Structure) (seen : List ℕ) → entriesReasons structure seen [] ≡ Pass
 unfolding entriesReasons
-none-pass seen = refl
+none-pass structure seen = refl
 
-entries-lawful : (entries : List ListEntry) (seen : List ℕ)
-    → (entriesReasons seen entries ≡ Pass) ↔ (LawfulEntries entries × Fresh seen entries)
-entries-lawful [] seen = (
+entries-lawful : (structure : Structure) (entries : List ListEntry) (seen : List ℕ)
+    → (entriesReasons structure seen entries ≡ Pass) ↔ (LawfulEntries structure entries × Fresh seen entries)
+entries-lawful structure [] seen = (
   λ h. (record { each = λ i l. absurd (omega arith); once = λ i j l. absurd (omega arith) }, λ i l. absurd (omega arith)),
-  λ h. none-pass seen,
+  λ h. none-pass structure seen,
 )
-entries-lawful (entry ∷ rest) seen =
-    let s = entries-right seen entry rest in
-    let f = entry-lawful seen entry in
-    let g = entries-lawful rest (entry .tag ∷ seen) in
-    let j = entries-step seen entry rest in (
+entries-lawful structure (entry ∷ rest) seen =
+    let s = entries-right structure seen entry rest in
+    let f = entry-lawful structure seen entry in
+    let g = entries-lawful structure rest (entry .tag ∷ seen) in
+    let j = entries-step structure seen entry rest in (
       λ h. let k = s .0 h in j .0 (f .0 (k .0), g .0 (k .1)),
       λ h. let k = j .1 h in s .1 (f .1 (k .0), g .1 (k .1)),
     )
 
 -- the header's list
 pub headed-lawful : (entries : List ListEntry)
-    → ListRight entries ↔ ((1 ≤ length entries) × (length entries ≤ nindexLimit) × LawfulEntries entries)
+    → ListRight Header entries ↔ ((1 ≤ length entries) × (length entries ≤ nindexLimit) × LawfulEntries Header entries)
 headed-lawful entries = (
-  λ r. (r .some, r .within, entries-lawful entries [] .0 (r .each) .0),
+  λ r. (r .some, r .within, entries-lawful Header entries [] .0 (r .each) .0),
   λ h.
-      record { some = h .0; within = h .1; each = entries-lawful entries [] .1 (h .2, λ i l. no-tag (nth entries i .tag)) },
+      record { some = h .0; within = h .1; each = entries-lawful Header entries [] .1 (h .2, λ i l. no-tag (nth entries i .tag)) },
 )
 
 -- the signature's list: 1000 comes first, so that its tag is seen
@@ -177,10 +180,11 @@ not-size entries = (
 )
 
 pub signed-lawful : (entries : List ListEntry)
-    → ListRight (sizeEntry 0 ∷ entries) ↔ ((length entries + 1 ≤ nindexLimit) × LawfulEntries entries × NotSize entries)
+    → ListRight Signature (sizeEntry 0 ∷ entries)
+    ↔ ((length entries + 1 ≤ nindexLimit) × LawfulEntries Signature entries × NotSize entries)
 signed-lawful entries =
     let s = own-passes 0 entries in
-    let g = entries-lawful entries (sizeTag ∷ []) in (
+    let g = entries-lawful Signature entries (sizeTag ∷ []) in (
       λ r.
           let w = r .within in
           let k = g .0 (sym s ∙ r .each) in

@@ -3,6 +3,7 @@ use Prim.Native.Nat.{ℕ, _≤_}
 use mathlib.Core.Path.{_≡_}
 use mathlib.Core.List.{List, [], _∷_}
 use native.Mathlib.Omega.{arith}
+use Rattle.format.specs.declared.section.Structure.{Structure}
 use Rattle.format.specs.declared.verdict.Verdict.the-variants.{Fail}
 use Rattle.format.proofs.NumberLaws.{pass-number, check-number, both-number}
 use Rattle.lists.specs.Lists.{ListEntry}
@@ -14,25 +15,26 @@ abbrev Ours : ℕ → Type 0
 Ours number = (32 ≤ number) × (number ≤ 34)
 
 module _ {number place : ℕ} where
-  entry-number : (seen : List ℕ) (entry : ListEntry) → entryReasons seen entry ≡ Fail number place → Ours number
+  entry-number : (structure : Structure) (seen : List ℕ) (entry : ListEntry)
+      → entryReasons structure seen entry ≡ Fail number place → Ours number
   unfolding entryReasons
-  entry-number seen entry k =
+  entry-number structure seen entry k =
       let next = check-number 32 34 in
       next _ _ _ _ k (omega arith) λ k. next _ _ _ _ k (omega arith) λ k. next _ _ _ _ k (omega arith)
       λ k. next _ _ _ _ k (omega arith) (pass-number 32 34)
 
-  entries-number : (seen : List ℕ) (entries : List ListEntry) → entriesReasons seen entries ≡ Fail number place
-      → Ours number
+  entries-number : (structure : Structure) (seen : List ℕ) (entries : List ListEntry)
+      → entriesReasons structure seen entries ≡ Fail number place → Ours number
   unfolding entriesReasons
-  entries-number seen [] k = pass-number 32 34 k
-  entries-number seen (entry ∷ rest) k =
-      both-number 32 34 _ _ k (entry-number seen entry) (entries-number (entry .tag ∷ seen) rest)
+  entries-number structure seen [] k = pass-number 32 34 k
+  entries-number structure seen (entry ∷ rest) k =
+      both-number 32 34 _ _ k (entry-number structure seen entry) (entries-number structure (entry .tag ∷ seen) rest)
 
-  list-number : (entries : List ListEntry) → listReasons entries ≡ Fail number place → Ours number
+  list-number : (structure : Structure) (entries : List ListEntry) → listReasons structure entries ≡ Fail number place → Ours number
   unfolding listReasons
-  list-number entries k =
+  list-number structure entries k =
       let next = check-number 32 34 in
-      next _ _ _ _ k (omega arith) λ k. next _ _ _ _ k (omega arith) (entries-number [] entries)
+      next _ _ _ _ k (omega arith) λ k. next _ _ _ _ k (omega arith) (entries-number structure [] entries)
 
   name-number : (name : List ℕ) → nameReasons name ≡ Fail number place → Ours number
   unfolding nameReasons
@@ -60,5 +62,5 @@ module _ {number place : ℕ} where
       (λ k. both-number 32 34 _ _ k (form-number signature signatureRow)
       λ k. both-number 32 34 _ _ k (form-number header headerRow)
       λ k. both-number 32 34 _ _ k (name-number name)
-      λ k. both-number 32 34 _ _ k (list-number _) (list-number _))
+      λ k. both-number 32 34 _ _ k (list-number _ _) (list-number _ _))
       (room-number _ room)

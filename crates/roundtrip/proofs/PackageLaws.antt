@@ -9,6 +9,7 @@ use native.Mathlib.Omega.{arith}
 use borrow.Author.Tests.{le-leb, eq-eqb, ne-eqb}
 use Rattle.format.specs.Sizes.{leadSize}
 use Rattle.format.specs.declared.section.Section.{Section}
+use Rattle.format.specs.declared.section.Structure.the-variants.{Signature, Header}
 use Rattle.format.specs.declared.verdict.Verdict.the-variants.{Pass}
 use Rattle.format.specs.Places.{sectionEnd, alignUp}
 use Rattle.format.proofs.VerdictLaws.{passed, both-pass}
@@ -81,7 +82,7 @@ module _ (name : List ℕ) (signature header : List ListEntry) (w : Writable nam
       omega arith
 
   -- 1000 with its number is as right as with any
-  entries-right : ListRight entries
+  entries-right : ListRight Signature entries
   unfolding withSize
   entries-right = size-right (length (structureBytes header)) signature (w .signed)
 
@@ -91,19 +92,19 @@ module _ (name : List ℕ) (signature header : List ListEntry) (w : Writable nam
       wide-step (sizeEntry (length (structureBytes header))) signature
       (omega arith, omega arith, omega arith, omega arith) (w .wideSigned)
 
-  signature-read : StructureRead p leadSize entries
+  signature-read : StructureRead Signature p leadSize entries
   signature-read =
       let a = w .limit in
       let b = structure-length entries in
       let c = within signature-here in
-      structure-read p leadSize entries entries-right entries-wide (omega arith) signature-here
+      structure-read Signature p leadSize entries entries-right entries-wide (omega arith) signature-here
 
-  header-read : StructureRead p start header
+  header-read : StructureRead Header p start header
   header-read =
       let a = w .limit in
       let b = structure-length header in
       let c = within header-here in
-      structure-read p start header (w .headed) (w .wideHeaded) (omega arith) header-here
+      structure-read Header p start header (w .headed) (w .wideHeaded) (omega arith) header-here
 
   header-start : headerStart (signatureAt p) ≡ start
   header-start = ap (alignUp 8) (signature-read .end)
@@ -123,7 +124,7 @@ module _ (name : List ℕ) (signature header : List ListEntry) (w : Writable nam
   unfolding packageCheck structuresCheck
   sound =
       both-pass size-pass ∙ both-pass (lead-pass name (w .named) p lead-here)
-      ∙ both-pass (signature-read .passes) ∙ ap (structureCheck p (length p)) header-start ∙ header-read .passes
+      ∙ both-pass (signature-read .passes) ∙ ap (structureCheck Header p (length p)) header-start ∙ header-read .passes
 
   size-is : length p - headerStart (signatureAt p) ≡ length (structureBytes header)
   size-is = let a = whole in let b = header-start in omega arith

@@ -10,6 +10,7 @@ use native.Mathlib.Omega.{arith}
 use borrow.Author.Tests.{leb-true, le-leb, not-true}
 use Rattle.strings.proofs.RowLaws.{single-among}
 use Rattle.format.specs.Sizes.{packageLimit}
+use Rattle.format.specs.declared.section.Structure.the-variants.{Signature, Header}
 use Rattle.format.specs.declared.verdict.Verdict.the-variants.{Pass}
 use Rattle.format.proofs.VerdictLaws.{passed, inverted, both-pass, both-inverted}
 use Rattle.lists.specs.Lists.{ListEntry, entriesOf}
@@ -55,8 +56,8 @@ name-right name = (
 -- a name and two lists of entries that may be written
 pub record Writable (name : List ℕ) (signature header : List ListEntry) : Type 0 where
   pub named : LawfulName name
-  pub signed : ListRight (sizeEntry 0 ∷ signature)
-  pub headed : ListRight header
+  pub signed : ListRight Signature (sizeEntry 0 ∷ signature)
+  pub headed : ListRight Header header
   pub wideSigned : Wide signature
   pub wideHeaded : Wide header
   pub limit : length (written name signature header) ≤ packageLimit
@@ -66,8 +67,8 @@ pub record Accepted (name signature signatureRow header headerRow : List ℕ) (r
   pub signedForm : FormRight signature signatureRow
   pub headedForm : FormRight header headerRow
   pub named : LawfulName name
-  pub signed : ListRight (sizeEntry 0 ∷ entriesOf signature signatureRow)
-  pub headed : ListRight (entriesOf header headerRow)
+  pub signed : ListRight Signature (sizeEntry 0 ∷ entriesOf signature signatureRow)
+  pub headed : ListRight Header (entriesOf header headerRow)
   pub limit : length (writtenOf name signature signatureRow header headerRow) ≤ packageLimit
   pub fits : length (writtenOf name signature signatureRow header headerRow) ≤ room
 
@@ -88,8 +89,8 @@ module _ (name signature signatureRow header headerRow : List ℕ) (room : ℕ) 
           signedForm = form-right signature signatureRow .0 (b .0);
           headedForm = form-right header headerRow .0 (c .0);
           named = name-right name .0 (d .0);
-          signed = list-right _ .0 (e .0);
-          headed = list-right _ .0 (e .1);
+          signed = list-right _ _ .0 (e .0);
+          headed = list-right _ _ .0 (e .1);
           limit = leb-true _ _ (f .0);
           fits = leb-true _ _ (g .0);
         },
@@ -98,7 +99,7 @@ module _ (name signature signatureRow header headerRow : List ℕ) (room : ℕ) 
         (both-pass (form-right signature signatureRow .1 (r .signedForm))
         ∙ both-pass (form-right header headerRow .1 (r .headedForm))
         ∙ both-pass (name-right name .1 (r .named))
-        ∙ both-pass (list-right _ .1 (r .signed))
-        ∙ list-right _ .1 (r .headed))
+        ∙ both-pass (list-right _ _ .1 (r .signed))
+        ∙ list-right _ _ .1 (r .headed))
         ∙ sym (passed _ _ (le-leb _ _ (r .limit)) (passed _ _ (le-leb _ _ (r .fits)) refl)),
   )

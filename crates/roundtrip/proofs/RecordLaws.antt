@@ -14,6 +14,7 @@ use Rattle.strings.specs.declared.Ending.{Ending}
 use Rattle.strings.specs.declared.Ending.the-variants.{Ends, Open}
 use Rattle.strings.specs.Strings.{isEnded}
 use Rattle.format.specs.declared.section.Section.{Section}
+use Rattle.format.specs.declared.section.Structure.{Structure}
 use Rattle.format.specs.declared.records.IndexRecord.{IndexRecord}
 use Rattle.format.specs.declared.verdict.Verdict.the-variants.{Pass}
 use Rattle.format.specs.Places.{recordPlace, storePlace, alignUp}
@@ -95,29 +96,30 @@ pub in-step : (tag first : ℕ) (seen : List ℕ) → tagIn tag (first ∷ seen)
 unfolding tagIn
 in-step tag first seen = refl
 
-count-same : (entry : ListEntry) (offset : ℕ) → countRight (recordOf entry offset) ≡ countRight (recordOf entry 0)
+count-same : (structure : Structure) (entry : ListEntry) (offset : ℕ)
+    → countRight structure (recordOf entry offset) ≡ countRight structure (recordOf entry 0)
 unfolding countRight
-count-same entry offset = refl
+count-same structure entry offset = refl
 
-entry-pass : (s : List ℕ) (section : Section) (i place : ℕ) (e : IndexRecord) (end : Ending) → typeLawful e ≡ true
-    → countRight e ≡ true → isAligned e ≡ true → isEnded end ≡ true → tagBefore s section i (e .tag) ≡ false
-    → entryCheck s section i place e end ≡ Pass
+entry-pass : (structure : Structure) (s : List ℕ) (section : Section) (i place : ℕ) (e : IndexRecord) (end : Ending)
+    → typeLawful e ≡ true → countRight structure e ≡ true → isAligned e ≡ true → isEnded end ≡ true → tagBefore s section i (e .tag) ≡ false
+    → entryCheck structure s section i place e end ≡ Pass
 unfolding entryCheck
-entry-pass s section i place e end a b c d f =
+entry-pass structure s section i place e end a b c d f =
     sym (passed _ _ a (passed _ _ b (passed _ _ c (passed _ _ d (passed _ _ (ap not f) refl)))))
 
 -- what an entry gives whose record stands at place i of the index, and its data behind what fills the store up to a place:
 -- it passes and reads so, and what is left of the index and the store stands where the next entry's record and data go
-pub record Placed (p : List ℕ) (section : Section) (entry : ListEntry) (seen index store : List ℕ) (i filled : ℕ) : Type 0
-  where
-    pub passes : recordCheck p section i ≡ Pass
-    pub reads : Reads p section i entry
-    pub indexed : Holds p (recordPlace section (i + 1)) index
-    pub stored : Holds p (storePlace section + dataStop filled entry) store
-    pub tags : (tag : ℕ) → tagBefore p section (i + 1) tag ≡ tagIn tag (entry .tag ∷ seen)
+pub record Placed (structure : Structure) (p : List ℕ) (section : Section) (entry : ListEntry) (seen index store : List ℕ)
+    (i filled : ℕ) : Type 0 where
+  pub passes : recordCheck structure p section i ≡ Pass
+  pub reads : Reads p section i entry
+  pub indexed : Holds p (recordPlace section (i + 1)) index
+  pub stored : Holds p (storePlace section + dataStop filled entry) store
+  pub tags : (tag : ℕ) → tagBefore p section (i + 1) tag ≡ tagIn tag (entry .tag ∷ seen)
 
-module _ (p : List ℕ) (section : Section) (small : section .hsize < 4294967296) (entry : ListEntry)
-    (seen index store : List ℕ) (i filled : ℕ) (right : EntryRight seen entry) (wide : WideEntry entry)
+module _ (structure : Structure) (p : List ℕ) (section : Section) (small : section .hsize < 4294967296) (entry : ListEntry)
+    (seen index store : List ℕ) (i filled : ℕ) (right : EntryRight structure seen entry) (wide : WideEntry entry)
     (indexed : Holds p (recordPlace section i) (recordBytes (recordOf entry (dataStart filled entry)) ++ index))
     (stored : Holds p (storePlace section + filled) (zeros (dataStart filled entry - filled) ++ (entry .bytes ++ store)))
     (fits : dataStop filled entry ≤ section .hsize) (tags : (tag : ℕ) → tagBefore p section i tag ≡ tagIn tag seen) where
@@ -142,11 +144,11 @@ module _ (p : List ℕ) (section : Section) (small : section .hsize < 4294967296
   ended =
       data-ends p section entry offset (elementSize (entry .ty)) (right .exact) (front (entry .bytes) store stands) fits
 
-  passes : recordCheck p section i ≡ Pass
+  passes : recordCheck structure p section i ≡ Pass
   passes =
-      ap (λ (e : IndexRecord). entryCheck p section i (recordPlace section i) e (dataEnd p section e)) read
-      ∙ entry-pass p section i (recordPlace section i) (recordOf entry offset) _ (right .typed)
-      (count-same entry offset ∙ right .counted) (offset-right (entry .ty) filled .1) (ap isEnded ended)
+      ap (λ (e : IndexRecord). entryCheck structure p section i (recordPlace section i) e (dataEnd p section e)) read
+      ∙ entry-pass structure p section i (recordPlace section i) (recordOf entry offset) _ (right .typed)
+      (count-same structure entry offset ∙ right .counted) (offset-right (entry .ty) filled .1) (ap isEnded ended)
       (tags (entry .tag) ∙ right .fresh)
 
   next-tags : (tag : ℕ) → tagBefore p section (i + 1) tag ≡ tagIn tag (entry .tag ∷ seen)
@@ -154,7 +156,7 @@ module _ (p : List ℕ) (section : Section) (small : section .hsize < 4294967296
       let t : be32At p (recordPlace section i) ≡ entry .tag = ap (λ (e : IndexRecord). e .tag) read in
       rw (add-one i) (tag-step p section i tag ∙ rw (t, tags tag) (sym (in-step tag (entry .tag) seen)))
 
-  pub placed : Placed p section entry seen index store i filled
+  pub placed : Placed structure p section entry seen index store i filled
   placed =
       let e = length-four (entry .tag) (entry .ty) offset (entry .count) in
       record {

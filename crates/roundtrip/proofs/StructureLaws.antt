@@ -8,6 +8,7 @@ use native.Mathlib.Omega.{arith}
 use borrow.Author.Tests.{le-leb}
 use Rattle.format.specs.Sizes.{nindexLimit}
 use Rattle.format.specs.declared.section.Section.{Section}
+use Rattle.format.specs.declared.section.Structure.{Structure}
 use Rattle.format.specs.declared.verdict.Verdict.the-variants.{Pass}
 use Rattle.format.specs.Places.{recordPlace, storePlace, sectionEnd}
 use Rattle.format.specs.Records.{headerRecordAt}
@@ -42,14 +43,14 @@ store-room filled entry rest =
     let c = length-replicate {A = ℕ} (dataStart filled entry - filled) 0 in
     rw (store-step filled entry rest) (omega arith)
 
-pass-step : (p : List ℕ) (section : Section) (n i : ℕ) → recordCheck p section i ≡ Pass
-    → recordsFrom p section n (i + 1) ≡ Pass → recordsFrom p section (suc n) i ≡ Pass
+pass-step : (structure : Structure) (p : List ℕ) (section : Section) (n i : ℕ) → recordCheck structure p section i ≡ Pass
+    → recordsFrom structure p section n (i + 1) ≡ Pass → recordsFrom structure p section (suc n) i ≡ Pass
 unfolding recordsFrom
-pass-step p section n i h k = both-pass h ∙ k
+pass-step structure p section n i h k = both-pass h ∙ k
 
-pass-none : (p : List ℕ) (section : Section) (i : ℕ) → recordsFrom p section 0 i ≡ Pass
+pass-none : (structure : Structure) (p : List ℕ) (section : Section) (i : ℕ) → recordsFrom structure p section 0 i ≡ Pass
 unfolding recordsFrom
-pass-none p section i = refl
+pass-none structure p section i = refl
 
 reads-step : (p : List ℕ) (section : Section) (i : ℕ) (entry : ListEntry) (rest : List ListEntry) → Reads p section i entry
     → ReadsFrom p section (i + 1) rest → ReadsFrom p section i (entry ∷ rest)
@@ -57,16 +58,17 @@ reads-step p section i entry rest h f zero l = let e : i + 0 ≡ i = omega arith
 reads-step p section i entry rest h f (suc k) l = let e : i + suc k ≡ i + 1 + k = omega arith in rw e (f k (omega arith))
 
 -- the entries whose records stand from place i of the index on, and their data behind what fills the store up to a place
-module _ (p : List ℕ) (section : Section) (small : section .hsize < 4294967296) where
-  records : (entries : List ListEntry) (seen : List ℕ) (i filled : ℕ) → entriesReasons seen entries ≡ Pass → Wide entries
+module _ (structure : Structure) (p : List ℕ) (section : Section) (small : section .hsize < 4294967296) where
+  records : (entries : List ListEntry) (seen : List ℕ) (i filled : ℕ)
+      → entriesReasons structure seen entries ≡ Pass → Wide entries
       → Holds p (recordPlace section i) (indexFrom filled entries)
       → Holds p (storePlace section + filled) (storeFrom filled entries)
       → filled + length (storeFrom filled entries) ≡ section .hsize
       → ((tag : ℕ) → tagBefore p section i tag ≡ tagIn tag seen)
-      → (recordsFrom p section (length entries) i ≡ Pass) × ReadsFrom p section i entries
-  records [] seen i filled h w hi hs r t = (pass-none p section i, λ k l. absurd (omega arith))
+      → (recordsFrom structure p section (length entries) i ≡ Pass) × ReadsFrom p section i entries
+  records [] seen i filled h w hi hs r t = (pass-none structure p section i, λ k l. absurd (omega arith))
   records (entry ∷ rest) seen i filled h w hi hs r t =
-      let k = entries-right seen entry rest .0 h in
+      let k = entries-right structure seen entry rest .0 h in
       let index = indexFrom (dataStop filled entry) rest in
       let store = storeFrom (dataStop filled entry) rest in
       let room = store-room filled entry rest in
@@ -74,11 +76,11 @@ module _ (p : List ℕ) (section : Section) (small : section .hsize < 4294967296
       let hi′ = rw (index-step filled entry rest) at hi in
       let hs′ = rw (store-step filled entry rest) at hs in
       let one =
-      placed p section small entry seen index store i filled (k .0) (w 0 (omega arith)) hi′ hs′ fits t in
+      placed structure p section small entry seen index store i filled (k .0) (w 0 (omega arith)) hi′ hs′ fits t in
       let later =
       records rest (entry .tag ∷ seen) (i + 1) (dataStop filled entry) (k .1) (λ j l. w (suc j) (omega arith))
       (one .indexed) (one .stored) (omega arith) (one .tags) in (
-        pass-step p section (length rest) i (one .passes) (later .0),
+        pass-step structure p section (length rest) i (one .passes) (later .0),
         reads-step p section i entry rest (one .reads) (later .1),
       )
 
@@ -100,14 +102,14 @@ unfolding tagBefore tagIn
 no-tags p section tag = refl
 
 -- a structure as it is read: it passes checks 5 to 13, its records are the entries', and it ends where its bytes do
-pub record StructureRead (p : List ℕ) (start : ℕ) (entries : List ListEntry) : Type 0 where
-  pub passes : structureCheck p (length p) start ≡ Pass
+pub record StructureRead (structure : Structure) (p : List ℕ) (start : ℕ) (entries : List ListEntry) : Type 0 where
+  pub passes : structureCheck structure p (length p) start ≡ Pass
   pub count : sectionAt p start .nindex ≡ length entries
   pub reads : (k : ℕ) → k < length entries → Reads p (sectionAt p start) k (nth entries k)
   pub end : sectionEnd (sectionAt p start) ≡ start + length (structureBytes entries)
 
-module _ (p : List ℕ) (start : ℕ) (entries : List ListEntry) (right : ListRight entries) (wide : Wide entries)
-    (small : length (storeFrom 0 entries) < 4294967296) (h : Holds p start (structureBytes entries)) where
+module _ (structure : Structure) (p : List ℕ) (start : ℕ) (entries : List ListEntry) (right : ListRight structure entries)
+    (wide : Wide entries) (small : length (storeFrom 0 entries) < 4294967296) (h : Holds p start (structureBytes entries)) where
   abbrev section : Section
   section = record { start = record { 0 = start }; nindex = length entries; hsize = length (storeFrom 0 entries) }
 
@@ -140,13 +142,13 @@ module _ (p : List ℕ) (start : ℕ) (entries : List ListEntry) (right : ListRi
       let e = index-length 0 entries in
       moved (omega arith) (rest (indexFrom 0 entries) (storeFrom 0 entries) behind-head)
 
-  both-read : (recordsFrom p section (length entries) 0 ≡ Pass) × ReadsFrom p section 0 entries
+  both-read : (recordsFrom structure p section (length entries) 0 ≡ Pass) × ReadsFrom p section 0 entries
   both-read =
-      records p section small entries [] 0 0 (right .each) wide
+      records structure p section small entries [] 0 0 (right .each) wide
       (moved (omega arith) (front (indexFrom 0 entries) (storeFrom 0 entries) behind-head)) store (omega arith)
       (no-tags p section)
 
-  passes : structureCheck p (length p) start ≡ Pass
+  passes : structureCheck structure p (length p) start ≡ Pass
   unfolding structureCheck
   passes =
       let w = within store in
@@ -154,9 +156,9 @@ module _ (p : List ℕ) (start : ℕ) (entries : List ListEntry) (right : ListRi
       header-pass (length p) start (length entries) (length (storeFrom 0 entries)) (right .some) (right .within)
       (omega arith) in
       both-pass (ap (headerCheck (length p) start) header-read ∙ a)
-      ∙ ap (λ (x : Section). recordsCheck p x) section-read ∙ both-read .0
+      ∙ ap (λ (x : Section). recordsCheck structure p x) section-read ∙ both-read .0
 
-  pub structure-read : StructureRead p start entries
+  pub structure-read : StructureRead structure p start entries
   structure-read =
       let e = structure-length entries in
       record {

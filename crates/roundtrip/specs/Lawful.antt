@@ -1,10 +1,12 @@
 -- Request 1: what may be written, as rules with no order.
 use Prim.Native.Nat.{ℕ, _+_, _*_, _≤_, _<_}
 use mathlib.Core.Path.{_≡_}
-use mathlib.Core.Logic.{_⊎_, _≢_}
+use mathlib.Core.Logic.{_≢_}
 use mathlib.Core.List.{List, []}
 use lib.ListN.{length, getD}
 use Rattle.strings.specs.Strings.{inRow}
+use Rattle.format.specs.declared.section.Structure.{Structure}
+use Rattle.format.specs.declared.section.Structure.the-variants.{Signature, Header}
 use Rattle.format.specs.Sizes.{packageLimit, nindexLimit}
 use Rattle.entries.specs.declared.types.ElementSize.the-variants.{Bytes, ToZero}
 use Rattle.entries.specs.Types.{elementSize}
@@ -22,20 +24,21 @@ pub record Strings (bytes : List ℕ) (count : ℕ) : Type 0 where
   pub row : bytes ≡ inRow texts
   pub whole : (k i : ℕ) → k < length texts → i < length (getD texts k []) → getD (getD texts k []) i 0 ≢ 0
 
--- an entry that a structure may hold, with data that is exactly what type and count say
-pub record LawfulEntry (entry : ListEntry) : Type 0 where
+-- an entry that a structure, signature or header, may hold, with data that is exactly what type and count say
+pub record LawfulEntry (structure : Structure) (entry : ListEntry) : Type 0 where
   -- types 0, 5 and 10 upward are refused
   pub type′ : (1 ≤ entry .ty) × (entry .ty ≢ 5) × (entry .ty ≤ 9)
-  -- count is at least 1, and exactly 1 for types 6 and 9
+  -- count is at least 1, and exactly 1 for type 6 and, in the signature, for type 9
   pub count : 1 ≤ entry .count
-  pub single : (entry .ty ≡ 6) ⊎ (entry .ty ≡ 9) → entry .count ≡ 1
+  pub single : entry .ty ≡ 6 → entry .count ≡ 1
+  pub translated : structure ≡ Signature → entry .ty ≡ 9 → entry .count ≡ 1
   -- size × count bytes, or count strings
   pub fixed : (n : ℕ) → elementSize (entry .ty) ≡ Bytes n → length (entry .bytes) ≡ n * entry .count
   pub strings : elementSize (entry .ty) ≡ ToZero → Strings (entry .bytes) (entry .count)
 
 -- each entry lawful, no tag twice
-pub record LawfulEntries (entries : List ListEntry) : Type 0 where
-  pub each : (i : ℕ) → i < length entries → LawfulEntry (nth entries i)
+pub record LawfulEntries (structure : Structure) (entries : List ListEntry) : Type 0 where
+  pub each : (i : ℕ) → i < length entries → LawfulEntry structure (nth entries i)
   pub once : (i j : ℕ) → i < length entries → j < i → nth entries j .tag ≢ nth entries i .tag
 
 -- 1 to 65 bytes, none zero
@@ -72,9 +75,9 @@ pub record LawfulWriting (name signature signatureRow header headerRow : List �
   pub someHeaded : 1 ≤ length headed
   pub fewHeaded : length headed ≤ nindexLimit
   -- lawful, and none of the signature's is 1000
-  pub signedLawful : LawfulEntries signed
+  pub signedLawful : LawfulEntries Signature signed
   pub notSize : (i : ℕ) → i < length signed → nth signed i .tag ≢ sizeTag
-  pub headedLawful : LawfulEntries headed
+  pub headedLawful : LawfulEntries Header headed
   -- within limit and room
   pub limit : length (written name signed headed) ≤ packageLimit
   pub fits : length (written name signed headed) ≤ room

@@ -24,7 +24,7 @@ module _ (hasLine : Line → Bool) (s : List ℕ) (len : ℕ) (signature header 
   pub rules-slots : (a b : Look) → rulesOver hasLine s len signature header (withSlots a) (withSlots b)
       ≡ rulesOver hasLine s len signature header a b
   unfolding rulesOver
-  rules-slots a b = rw (lines-slots hasLine a b, size-slots a, groups-slots a b, texts-slots s header b)
+  rules-slots a b = rw (lines-slots hasLine a b, size-slots a, groups-slots s header a b, texts-slots s header b)
 
   pub rules-gathered : {v : Verdict} {first second : List ℕ} → first ≡ gathered s signature emptyTable
       → second ≡ gathered s header emptyTable

@@ -1,4 +1,5 @@
--- Document 01, checks 14 to 18 over a package's two structures. They ask of a structure only what it shows for a tag.
+-- Document 01, checks 14 to 18 over a package's two structures. They ask of a structure what it shows for a tag, and of
+-- the header's index how many strings are translated.
 use Prim.Native.Nat.{ℕ, _-_}
 use mathlib.Core.List.{List}
 use mathlib.Core.Bool.{Bool}
@@ -24,7 +25,7 @@ unfoldable pub rulesOver : (Line → Bool) → List ℕ → ℕ → Section → 
 rulesOver hasLine s len signature header inSignature inHeader =
     both (linesCheck hasLine inSignature inHeader)
     (both (sizeTagCheck s len signature header inSignature)
-    (both (groupsCheck inSignature inHeader)
+    (both (groupsCheck s header inSignature inHeader)
     (textsCheck s header inHeader)))
 
 -- 14 to 18, by the records of the two indexes

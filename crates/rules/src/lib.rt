@@ -53,7 +53,7 @@ fn check_gathered(
     if let Verdict::Fail(number, place) = v {
         return Verdict::Fail(number, place);
     }
-    let v = groups::check(first, second);
+    let v = groups::check(pkg, header, first, second);
     if let Verdict::Fail(number, place) = v {
         return Verdict::Fail(number, place);
     }

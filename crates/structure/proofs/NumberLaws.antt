@@ -5,6 +5,7 @@ use mathlib.Core.List.{List}
 use native.Mathlib.Omega.{arith}
 use Rattle.strings.specs.declared.Ending.{Ending}
 use Rattle.format.specs.declared.section.Section.{Section}
+use Rattle.format.specs.declared.section.Structure.{Structure}
 use Rattle.format.specs.declared.records.HeaderRecord.{HeaderRecord}
 use Rattle.format.specs.declared.records.IndexRecord.{IndexRecord}
 use Rattle.format.specs.declared.verdict.Verdict.{Verdict}
@@ -24,26 +25,26 @@ module _ {number place : ℕ} where
       λ k. next _ _ _ _ k (omega arith) λ k. next _ _ _ _ k (omega arith)
       λ k. next _ _ _ _ k (omega arith) (pass-number 5 13)
 
-  entry-number : (s : List ℕ) (section : Section) (i at : ℕ) (e : IndexRecord) (end : Ending)
-      → entryCheck s section i at e end ≡ Fail number place → (5 ≤ number) × (number ≤ 13)
+  entry-number : (structure : Structure) (s : List ℕ) (section : Section) (i at : ℕ) (e : IndexRecord) (end : Ending)
+      → entryCheck structure s section i at e end ≡ Fail number place → (5 ≤ number) × (number ≤ 13)
   unfolding entryCheck
-  entry-number s section i at e end k =
+  entry-number structure s section i at e end k =
       let next = check-number 5 13 in
       next _ _ _ _ k (omega arith) λ k. next _ _ _ _ k (omega arith) λ k. next _ _ _ _ k (omega arith)
       λ k. next _ _ _ _ k (omega arith) λ k. next _ _ _ _ k (omega arith) (pass-number 5 13)
 
-  records-number : (s : List ℕ) (section : Section) (n i : ℕ) → recordsFrom s section n i ≡ Fail number place
+  records-number : (structure : Structure) (s : List ℕ) (section : Section) (n i : ℕ) → recordsFrom structure s section n i ≡ Fail number place
       → (5 ≤ number) × (number ≤ 13)
   unfolding recordsFrom
-  records-number s section zero i k = pass-number 5 13 k
-  records-number s section (suc n) i k =
-      both-number 5 13 _ _ k (entry-number _ _ _ _ _ _) (records-number s section n (i + 1))
+  records-number structure s section zero i k = pass-number 5 13 k
+  records-number structure s section (suc n) i k =
+      both-number 5 13 _ _ k (entry-number _ _ _ _ _ _ _) (records-number structure s section n (i + 1))
 
   -- checks 5 to 13
-  pub structure-number : (s : List ℕ) (len start : ℕ) → structureCheck s len start ≡ Fail number place
+  pub structure-number : (structure : Structure) (s : List ℕ) (len start : ℕ) → structureCheck structure s len start ≡ Fail number place
       → (5 ≤ number) × (number ≤ 13)
   unfolding structureCheck
-  structure-number s len start k = both-number 5 13 _ _ k (header-number _ _ _) (records-number _ _ _ _)
+  structure-number structure s len start k = both-number 5 13 _ _ k (header-number _ _ _) (records-number _ _ _ _ _)
 
 -- number and place of a checked structure are those of its verdict, 0 and 0 where all checks passed
 module _ (v : Verdict) (section : Section) where
@@ -55,10 +56,10 @@ module _ (v : Verdict) (section : Section) where
   checked-fail h = (rw h, rw h)
 
 -- the number is 0 only there
-pub checked-zero : (s : List ℕ) (len start : ℕ) → checkedNumber (structureChecked s len start) ≡ 0
-    → structureCheck s len start ≡ Pass
-checked-zero s len start h = go (structureCheck s len start) refl h
+pub checked-zero : (structure : Structure) (s : List ℕ) (len start : ℕ) → checkedNumber (structureChecked structure s len start) ≡ 0
+    → structureCheck structure s len start ≡ Pass
+checked-zero structure s len start h = go (structureCheck structure s len start) refl h
   where
-    go : (v : Verdict) → structureCheck s len start ≡ v → checkedNumber (checkedAs v (sectionAt s start)) ≡ 0 → v ≡ Pass
+    go : (v : Verdict) → structureCheck structure s len start ≡ v → checkedNumber (checkedAs v (sectionAt s start)) ≡ 0 → v ≡ Pass
     go Pass e k = refl
-    go (Fail number place) e k = let t = structure-number s len start e in absurd (omega arith)
+    go (Fail number place) e k = let t = structure-number structure s len start e in absurd (omega arith)

@@ -5,6 +5,7 @@ use mathlib.Core.List.{List}
 use native.Mathlib.Omega.{arith}
 use borrow.Author.Tests.{leb-true, eqb-true}
 use Rattle.format.specs.declared.section.Section.{Section}
+use Rattle.format.specs.declared.section.Structure.{Structure}
 use Rattle.format.specs.declared.records.HeaderRecord.{HeaderRecord}
 use Rattle.format.specs.declared.verdict.Verdict.{Verdict}
 use Rattle.format.specs.declared.verdict.Verdict.the-variants.{Pass, Fail}
@@ -38,24 +39,24 @@ header-sound len start h k =
 
 -- in the shape of what is known where the structure is checked: h is the header record that was read at its place, v what
 -- its checks found, w what the records' checks found
-module _ (s : List ℕ) (len start : ℕ) {place : ℕ} {h : HeaderRecord} (e : place ≡ start) (r : h ≡ headerRecordAt s place)
+module _ (structure : Structure) (s : List ℕ) (len start : ℕ) {place : ℕ} {h : HeaderRecord} (e : place ≡ start) (r : h ≡ headerRecordAt s place)
     {v : Verdict} (p : v ≡ headerCheck len start h) where
   header-there : h ≡ headerRecordAt s start
   header-there = r ∙ ap (headerRecordAt s) e
 
-  pub refused : {number at : ℕ} → v ≡ Fail number at → Unsound number at ≡ structureChecked s len start
+  pub refused : {number at : ℕ} → v ≡ Fail number at → Unsound number at ≡ structureChecked structure s len start
   unfolding structureCheck
   refused k = rw (both-fail _ (rw header-there at (sym p ∙ k)))
 
-  module _ {w : Verdict} (k : v ≡ Pass) (j : w ≡ recordsCheck s (sectionOf start h)) where
-    rest : structureCheck s len start ≡ w
+  module _ {w : Verdict} (k : v ≡ Pass) (j : w ≡ recordsCheck structure s (sectionOf start h)) where
+    rest : structureCheck structure s len start ≡ w
     unfolding structureCheck
-    rest = both-pass {rest = recordsCheck s (sectionAt s start)} (rw header-there at (sym p ∙ k)) ∙ sym (rw header-there at j)
+    rest = both-pass {rest = recordsCheck structure s (sectionAt s start)} (rw header-there at (sym p ∙ k)) ∙ sym (rw header-there at j)
 
-    pub sound : w ≡ Pass → Sound (sectionOf start h) ≡ structureChecked s len start
+    pub sound : w ≡ Pass → Sound (sectionOf start h) ≡ structureChecked structure s len start
     sound l = rw (rest ∙ l, header-there)
 
-    pub unsound : {number at : ℕ} → w ≡ Fail number at → Unsound number at ≡ structureChecked s len start
+    pub unsound : {number at : ℕ} → w ≡ Fail number at → Unsound number at ≡ structureChecked structure s len start
     unsound l = rw (rest ∙ l)
 
 pub store-small : (len start : ℕ) (h : HeaderRecord) {v : Verdict} → v ≡ headerCheck len start h → v ≡ Pass → len < 4294967296
@@ -63,28 +64,28 @@ pub store-small : (len start : ℕ) (h : HeaderRecord) {v : Verdict} → v ≡ h
 store-small len start h p k l = let b = header-sound len start h (sym p ∙ k) .fits in omega arith
 
 -- each record of a run that passed has passed
-pub each : (s : List ℕ) (section : Section) (n i : ℕ) → recordsFrom s section n i ≡ Pass → (k : ℕ) → k < n
-    → recordCheck s section (i + k) ≡ Pass
+pub each : (structure : Structure) (s : List ℕ) (section : Section) (n i : ℕ) → recordsFrom structure s section n i ≡ Pass → (k : ℕ) → k < n
+    → recordCheck structure s section (i + k) ≡ Pass
 unfolding recordsFrom
-each s section zero i h k l = absurd (omega arith)
-each s section (suc n) i h zero l =
+each structure s section zero i h k l = absurd (omega arith)
+each structure s section (suc n) i h zero l =
     let e : i + 0 ≡ i = omega arith in
     rw e (both-inverted _ _ h .0)
-each s section (suc n) i h (suc k) l =
+each structure s section (suc n) i h (suc k) l =
     let e : i + suc k ≡ i + 1 + k = omega arith in
-    rw e (each s section n (i + 1) (both-inverted _ _ h .1) k (omega arith))
+    rw e (each structure s section n (i + 1) (both-inverted _ _ h .1) k (omega arith))
 
 -- and so has each record of a structure
-module _ (s : List ℕ) (len start : ℕ) (h : structureCheck s len start ≡ Pass) where
+module _ (structure : Structure) (s : List ℕ) (len start : ℕ) (h : structureCheck structure s len start ≡ Pass) where
   pub structure-header : SoundHeader len start (headerRecordAt s start)
   unfolding structureCheck
   structure-header = header-sound len start (headerRecordAt s start) (both-inverted _ _ h .0)
 
-  pub structure-record : (k : ℕ) → k < sectionAt s start .nindex → recordCheck s (sectionAt s start) k ≡ Pass
+  pub structure-record : (k : ℕ) → k < sectionAt s start .nindex → recordCheck structure s (sectionAt s start) k ≡ Pass
   unfolding structureCheck
   structure-record k l =
       let e : 0 + k ≡ k = omega arith in
-      rw e at (each s (sectionAt s start) (sectionAt s start .nindex) 0 (both-inverted _ _ h .1) k l)
+      rw e at (each structure s (sectionAt s start) (sectionAt s start .nindex) 0 (both-inverted _ _ h .1) k l)
 
 -- what a checked structure says of its verdict
 pub checked-sound : (v : Verdict) (section : Section) {section′ : Section} → checkedAs v section ≡ Sound section′

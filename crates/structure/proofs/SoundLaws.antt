@@ -13,6 +13,7 @@ use Rattle.strings.specs.declared.Ending.the-variants.{Ends, Open}
 use Rattle.strings.specs.Strings.{isEnded}
 use Rattle.strings.proofs.StringLaws.{bound, positive, tight}
 use Rattle.format.specs.declared.section.Section.{Section}
+use Rattle.format.specs.declared.section.Structure.{Structure}
 use Rattle.format.specs.declared.records.IndexRecord.{IndexRecord}
 use Rattle.format.specs.declared.verdict.Verdict.the-variants.{Pass}
 use Rattle.format.specs.Places.{sectionEnd, inFile}
@@ -22,20 +23,13 @@ use Rattle.entries.specs.declared.types.ElementSize.the-variants.{Bytes, ToZero
 use Rattle.index.specs.declared.Entry.{Entry}
 use Rattle.index.specs.declared.Found.the-variants.{At}
 use Rattle.entries.specs.Types.{elementSize}
-use Rattle.entries.specs.Entries.{recordAt, countRight, endFor, dataEnd, entryCheck, recordCheck}
+use Rattle.entries.specs.Entries.{recordAt, endFor, dataEnd, entryCheck, recordCheck}
 use Rattle.structure.specs.Structure.{sectionAt, structureCheck}
 use Rattle.index.specs.Lookup.{entryOf, entryAt, isFor, findFrom, findIn}
 use Rattle.structure.specs.Sound.{SoundEntry}
 use Rattle.entries.proofs.TypeLaws.{bytes-small}
+use Rattle.entries.proofs.RuleLaws.{count-lawful}
 use Rattle.structure.proofs.PassLaws.{structure-header, structure-record}
-
-one-or-more : (b : Bool) (count : ℕ) → cond b (eqb count 1) (leb 1 count) ≡ true → 1 ≤ count
-one-or-more true count h = let e = eqb-true count 1 h in omega arith
-one-or-more false count h = leb-true 1 count h
-
-pub count-some : (e : IndexRecord) → countRight e ≡ true → 1 ≤ e .count
-unfolding countRight
-count-some e h = one-or-more (eqb (e .ty) 6 || eqb (e .ty) 9) (e .count) h
 
 ended : (end : Ending) → isEnded end ≡ true → (to : ℕ) × (end ≡ Ends to)
 ended (Ends to) h = (to, refl)
@@ -85,16 +79,16 @@ module _ (s : List ℕ) (len : ℕ) (section : Section) (e : IndexRecord) (fits 
       let t = ended end h in
       rw (t .1) (at-end (t .0) (elementSize (e .ty)) refl (p ∙ t .1))
 
-pub record-sound : (s : List ℕ) (len : ℕ) (section : Section) (i : ℕ) → sectionEnd section ≤ len → recordCheck s section i ≡ Pass
-    → SoundEntry s len (entryAt s section i)
+pub record-sound : (structure : Structure) (s : List ℕ) (len : ℕ) (section : Section) (i : ℕ) → sectionEnd section ≤ len
+    → recordCheck structure s section i ≡ Pass → SoundEntry s len (entryAt s section i)
 unfolding entryCheck
-record-sound s len section i fits h =
+record-sound structure s len section i fits h =
     let k9 = inverted _ _ _ _ h in
     let k10 = inverted _ _ _ _ (k9 .1) in
     let k11 = inverted _ _ _ _ (k10 .1) in
     let k12 = inverted _ _ _ _ (k11 .1) in
     let e = recordAt s section i in
-    at-any s len section e fits (count-some e (k10 .0)) (dataEnd s section e) refl (k12 .0)
+    at-any s len section e fits (count-lawful e structure .0 (k10 .0) .0) (dataEnd s section e) refl (k12 .0)
 
 first-or-later : (i k : ℕ) → i ≤ k → (i ≡ k) ⊎ (i + 1 ≤ k)
 first-or-later i k l = ⊎-elim (λ h. inl (eqb-true i k h)) (λ h. inr (let n = eqb-false i k h in omega arith)) (either (eqb i k))
@@ -134,12 +128,12 @@ module _ (s : List ℕ) (section : Section) (tag ty : ℕ) where
       go false t f = f (⊎-elim (λ e. let z : _≡_ {A = Bool} true false = sym h ∙ ap (λ (j : ℕ). isFor tag ty (recordAt s section j)) (sym e) ∙ t in let y : _≡_ {A = ℕ} 0 1 = cc in omega arith) (λ g. g) (first-or-later i k l)) (omega arith) h
 
 -- an entry that a look-up finds in a sound structure is sound
-pub found-sound : (s : List ℕ) (len start tag ty : ℕ) (entry : Entry) → structureCheck s len start ≡ Pass
+pub found-sound : (structure : Structure) (s : List ℕ) (len start tag ty : ℕ) (entry : Entry) → structureCheck structure s len start ≡ Pass
     → findIn s (sectionAt s start) tag ty ≡ At entry → SoundEntry s len entry
-found-sound s len start tag ty entry h f =
+found-sound structure s len start tag ty entry h f =
     let r = found-record s (sectionAt s start) tag ty (sectionAt s start .nindex) 0 entry f in
-    rw (r .4) (record-sound s len (sectionAt s start) (r .0) (structure-header s len start h .fits)
-    (structure-record s len start h (r .0) (omega arith)))
+    rw (r .4) (record-sound structure s len (sectionAt s start) (r .0) (structure-header structure s len start h .fits)
+    (structure-record structure s len start h (r .0) (omega arith)))
 
 -- it has the type that was looked for
 pub found-type : (s : List ℕ) (section : Section) (tag ty : ℕ) (entry : Entry) → findIn s section tag ty ≡ At entry → entry .ty ≡ ty

@@ -7,6 +7,7 @@ use lib.Dec.{eqb}
 use native.Mathlib.Omega.{arith}
 use borrow.Author.Tests.{eqb-true, eqb-false, eq-eqb, not-true}
 use Rattle.format.specs.declared.section.Section.{Section}
+use Rattle.format.specs.declared.section.Structure.{Structure}
 use Rattle.format.specs.declared.records.IndexRecord.{IndexRecord}
 use Rattle.format.specs.declared.verdict.Verdict.the-variants.{Pass}
 use Rattle.format.proofs.VerdictLaws.{inverted}
@@ -28,8 +29,8 @@ or-true : (a : Bool) {b : Bool} → b ≡ true → (a || b) ≡ true
 or-true true h = refl
 or-true false h = h
 
+-- the tag of one of the first k records
 module _ (s : List ℕ) (section : Section) where
-  -- the tag of one of the first k records
   tag-before : (j k tag : ℕ) → j < k → recordAt s section j .tag ≡ tag → tagBefore s section k tag ≡ true
   unfolding tagBefore
   tag-before j zero tag l h = absurd (omega arith)
@@ -42,8 +43,9 @@ module _ (s : List ℕ) (section : Section) where
           rw (eq-eqb (recordAt s section k .tag) tag (e ∙ h))
       go false t f = or-true (eqb (recordAt s section k .tag) tag) (f (let n = eqb-false j k t in omega arith) h)
 
+module _ (structure : Structure) (s : List ℕ) (section : Section) where
   -- check 13
-  tag-new : (k : ℕ) → recordCheck s section k ≡ Pass → tagBefore s section k (recordAt s section k .tag) ≡ false
+  tag-new : (k : ℕ) → recordCheck structure s section k ≡ Pass → tagBefore s section k (recordAt s section k .tag) ≡ false
   unfolding entryCheck
   tag-new k h =
       let k9 = inverted _ _ _ _ h in
@@ -52,14 +54,14 @@ module _ (s : List ℕ) (section : Section) where
       let k12 = inverted _ _ _ _ (k11 .1) in
       not-true _ (inverted _ _ _ _ (k12 .1) .0)
 
-  earlier-differs : (j k : ℕ) → j < k → recordCheck s section k ≡ Pass
+  earlier-differs : (j k : ℕ) → j < k → recordCheck structure s section k ≡ Pass
       → recordAt s section j .tag ≡ recordAt s section k .tag → ⊥
   earlier-differs j k l p h =
-      let e : true ≡ false = sym (tag-before j k _ l h) ∙ tag-new k p in
+      let e : true ≡ false = sym (tag-before s section j k _ l h) ∙ tag-new k p in
       let z : _≡_ {A = ℕ} 0 1 = cc in
       omega arith
 
-  pub tags-once : (j k : ℕ) → recordCheck s section j ≡ Pass → recordCheck s section k ≡ Pass
+  pub tags-once : (j k : ℕ) → recordCheck structure s section j ≡ Pass → recordCheck structure s section k ≡ Pass
       → recordAt s section j .tag ≡ recordAt s section k .tag → j ≡ k
   tags-once j k p q h =
       let a : j < k → ⊥ = λ l. earlier-differs j k l q h in

@@ -2,6 +2,7 @@
 use Prim.Native.Nat.{ℕ}
 use mathlib.Core.List.{List}
 use Rattle.format.specs.declared.section.Section.{Section}
+use Rattle.format.specs.declared.section.Structure.{Structure}
 use Rattle.format.specs.declared.verdict.Verdict.{Verdict}
 use Rattle.format.specs.declared.verdict.Verdict.the-variants.{Pass, Fail}
 use Rattle.structure.specs.declared.Checked.{Checked}
@@ -13,8 +14,8 @@ abbrev pub checkedAs : Verdict → Section → Checked
 checkedAs Pass section = Sound section
 checkedAs (Fail number place) section = Unsound number place
 
-abbrev pub structureChecked : List ℕ → ℕ → ℕ → Checked
-structureChecked s len start = checkedAs (structureCheck s len start) (sectionAt s start)
+abbrev pub structureChecked : Structure → List ℕ → ℕ → ℕ → Checked
+structureChecked structure s len start = checkedAs (structureCheck structure s len start) (sectionAt s start)
 
 -- the paper's number and place: 0 and 0 where all checks passed
 abbrev pub checkedNumber : Checked → ℕ

@@ -1,10 +1,11 @@
--- Document 01, "Header structure" and checks 5 to 13 for a structure at a place of the file. The package's length is a
+-- Document 01, "Header structure" and checks 5 to 13 for a structure, signature or header, at a place of the file. The package's length is a
 -- number of its own; bytes past the end of the list read as 0.
 use Prim.Native.Nat.{ℕ, zero, suc, _+_}
 use mathlib.Core.List.{List}
 use mathlib.Core.Bool.{Bool}
 use lib.Dec.{eqb, leb}
 use Rattle.format.specs.declared.section.Section.{Section}
+use Rattle.format.specs.declared.section.Structure.{Structure}
 use Rattle.format.specs.declared.records.HeaderRecord.{HeaderRecord}
 use Rattle.format.specs.declared.verdict.Verdict.{Verdict}
 use Rattle.format.specs.declared.verdict.Verdict.the-variants.{Pass}
@@ -55,13 +56,14 @@ headerCheck len start h =
     Pass)))))
 
 -- 9 to 13 for n index records from number i on, in order
-unfoldable pub recordsFrom : List ℕ → Section → ℕ → ℕ → Verdict
-recordsFrom s section zero i = Pass
-recordsFrom s section (suc n) i = both (recordCheck s section i) (recordsFrom s section n (i + 1))
+unfoldable pub recordsFrom : Structure → List ℕ → Section → ℕ → ℕ → Verdict
+recordsFrom structure s section zero i = Pass
+recordsFrom structure s section (suc n) i = both (recordCheck structure s section i) (recordsFrom structure s section n (i + 1))
 
-abbrev pub recordsCheck : List ℕ → Section → Verdict
-recordsCheck s section = recordsFrom s section (section .nindex) 0
+abbrev pub recordsCheck : Structure → List ℕ → Section → Verdict
+recordsCheck structure s section = recordsFrom structure s section (section .nindex) 0
 
 -- 5 to 13
-unfoldable pub structureCheck : List ℕ → ℕ → ℕ → Verdict
-structureCheck s len start = both (headerCheck len start (headerRecordAt s start)) (recordsCheck s (sectionAt s start))
+unfoldable pub structureCheck : Structure → List ℕ → ℕ → ℕ → Verdict
+structureCheck structure s len start =
+    both (headerCheck len start (headerRecordAt s start)) (recordsCheck structure s (sectionAt s start))

@@ -8,6 +8,7 @@ ghost use Rattle.structure.specs.Checked.{structureChecked};
 use entries::entry_check;
 use format::HeaderRecord;
 use format::Section;
+use format::Structure;
 use format::Verdict;
 use places::Start;
 
@@ -55,16 +56,16 @@ fn header_check(len: u32, start: Start, h: HeaderRecord) -> Verdict
 }
 
 // Checks 9 to 13 for each index record in turn.
-fn records_check(s: &[u8], section: Section) -> Verdict
+fn records_check(structure: Structure, s: &[u8], section: Section) -> Verdict
     requires { ⌜ storePlace section < 4294967296 ⌝ }
-    ensures { λ r. ⌜ r ≡ recordsCheck (now (s .entry)) section ⌝ }
+    ensures { λ r. ⌜ r ≡ recordsCheck structure (now (s .entry)) section ⌝ }
 {
     let n = section.nindex;
     let mut i = 0;
     while i < n {
         let place = section.index_record(i);
         let e = section.record(s, n, i);
-        let v = entry_check(s, section, i, place.get() as u32, e);
+        let v = entry_check(structure, s, section, i, place.get() as u32, e);
         if let Verdict::Fail(number, at) = v {
             return Verdict::Fail(number, at);
         }
@@ -74,8 +75,8 @@ fn records_check(s: &[u8], section: Section) -> Verdict
 }
 
 // Checks 5 to 13 for the structure at `start` in a package of `len` bytes.
-pub fn check(s: &[u8], len: u32, start: Start) -> Checked
-    ensures { λ r. ⌜ r ≡ structureChecked (now (s .entry)) len (start .0) ⌝ }
+pub fn check(structure: Structure, s: &[u8], len: u32, start: Start) -> Checked
+    ensures { λ r. ⌜ r ≡ structureChecked structure (now (s .entry)) len (start .0) ⌝ }
 {
     let h = HeaderRecord::at(s, start.in_file());
     let v = header_check(len, start, h);
@@ -87,7 +88,7 @@ pub fn check(s: &[u8], len: u32, start: Start) -> Checked
         nindex: h.nindex,
         hsize: h.hsize,
     };
-    let w = records_check(s, section);
+    let w = records_check(structure, s, section);
     if let Verdict::Fail(number, at) = w {
         return Checked::Unsound(number, at);
     }

@@ -46,11 +46,11 @@ module _ (s : List ℕ) (section : Section) (position : ℕ) where
 structure-small : (s : List ℕ) → soundCheck s ≡ Pass → (b : Bool)
     → sectionEnd (cond b (signatureAt s) (headerAt s)) ≤ packageLimit
 structure-small s h true =
-    let b = structure-header s (length s) leadSize (sound-signature s h) .fits in
+    let b = structure-header _ s (length s) leadSize (sound-signature s h) .fits in
     let l = sound-size s h in
     omega arith
 structure-small s h false =
-    let b = structure-header s (length s) (headerStart (signatureAt s)) (sound-header s h) .fits in
+    let b = structure-header _ s (length s) (headerStart (signatureAt s)) (sound-header s h) .fits in
     let l = sound-size s h in
     omega arith
 

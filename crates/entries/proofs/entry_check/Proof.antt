@@ -12,7 +12,7 @@ enum-known-v : tie.Need-enum-known-v
 enum-known-v c = search needs
 
 returns : tie.Need-returns
-returns c = rw (entry-as _ _ _ _ _ _) (search (went, halted, passed, stopped, answers) depth 12)
+returns c = rw (entry-as _ _ _ _ _ _ _) (search (went, halted, passed, stopped, answers) depth 12)
 
 enum-told : tie.Need-enum-told
 enum-told c = search needs
@@ -21,10 +21,10 @@ tag-before-requires : tie.Need-tag-before-requires
 tag-before-requires c κs = search needs
 
 returns-2 : tie.Need-returns-2
-returns-2 c = rw (entry-as _ _ _ _ _ _) (search (went, halted, passed, stopped, answers) depth 12)
+returns-2 c = rw (entry-as _ _ _ _ _ _ _) (search (went, halted, passed, stopped, answers) depth 12)
 
 returns-3 : tie.Need-returns-3
-returns-3 c = rw (entry-as _ _ _ _ _ _) (search (went, halted, passed, stopped, answers) depth 12)
+returns-3 c = rw (entry-as _ _ _ _ _ _ _) (search (went, halted, passed, stopped, answers) depth 12)
 
 pub entry-check-spec : {M : Type 1} → statement M
 entry-check-spec =

@@ -10,12 +10,12 @@ use Rattle.reasons.proofs.entries_check.Statement.{statement}
 use Rattle.reasons.proofs.entries_check.Tie as tie
 
 abbrev Inv-loop : tie.InvT-loop
-Inv-loop list row own n at₀ i₀ at i = (i ≤ n) × (16 * n ≤ length list) × (at ≤ 4294967295 * i)
-    × (entriesReasons (ownTags own) (entriesFrom list row n 0 0)
-    ≡ entriesReasons (tagsBefore own list i) (entriesFrom list row (n - i) i at))
+Inv-loop structure list row n at₀ i₀ at i = (i ≤ n) × (16 * n ≤ length list) × (at ≤ 4294967295 * i)
+    × (entriesReasons structure (ownTags structure) (entriesFrom list row n 0 0)
+    ≡ entriesReasons structure (tagsBefore structure list i) (entriesFrom list row (n - i) i at))
 
 abbrev μ-loop : tie.MeasureT-loop
-μ-loop list row own n at₀ i₀ at i = n - i
+μ-loop structure list row n at₀ i₀ at i = n - i
 
 cast-n : tie.Need-cast-n Inv-loop μ-loop
 cast-n c = search needs

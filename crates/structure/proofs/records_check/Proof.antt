@@ -9,10 +9,10 @@ use Rattle.structure.proofs.records_check.Statement.{statement}
 use Rattle.structure.proofs.records_check.Tie as tie
 
 abbrev Inv-loop : tie.InvT-loop
-Inv-loop s section n i₀ i = (i ≤ n) × (recordsFrom s section n 0 ≡ recordsFrom s section (n - i) i)
+Inv-loop structure s section n i₀ i = (i ≤ n) × (recordsFrom structure s section n 0 ≡ recordsFrom structure s section (n - i) i)
 
 abbrev μ-loop : tie.MeasureT-loop
-μ-loop s section n i₀ i = n - i
+μ-loop structure s section n i₀ i = n - i
 
 loop-holds : tie.Need-loop-holds Inv-loop μ-loop
 loop-holds c = (search needs, simp sub-zero)

@@ -1,0 +1,2 @@
+pub mod LocaleLaws
+pub mod OrderLaws
