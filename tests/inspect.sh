@@ -33,9 +33,11 @@ made() {
     cat "$1"
 }
 
-# input SPEC: a package of tests/data; PACKAGE:N is its first N bytes, with zeros behind where it has fewer
+# input SPEC: a package of tests/data; PACKAGE:N is its first N bytes, with zeros behind where it has fewer;
+# samples/NAME is a package of crates/samples/data
 input() {
     case $1 in
+        samples/*) cat "crates/samples/data/${1#samples/}" ;;
         *:*) { cat "tests/data/${1%:*}"; head -c 65537 /dev/zero; } > "$work/long"; head -c "${1#*:}" "$work/long" ;;
         *) cat "tests/data/$1" ;;
     esac
@@ -86,8 +88,8 @@ same "index 1, in two pieces" tests/inspect/rb-one-index-1.out
 long=$(head -c 100000 /dev/zero | tr '\0' a)
 "$inspect" requires "$long" < tests/data/rb-one.rpm > "$work/out"
 same "requires NAME, of 100,000 bytes" tests/inspect/empty-line.out
-"$inspect" requires "$long" < tests/data/rb-i18n.rpm > "$work/out"
-same "requires NAME, of 100,000 bytes, refused" tests/inspect/refused-10.out
+"$inspect" requires "$long" < crates/samples/data/check10_two_strings > "$work/out"
+same "requires NAME, of 100,000 bytes, refused" tests/inspect/refused-10-152.out
 "$inspect" "$long" < tests/data/rb-one.rpm > "$work/out"
 same "a command of 100,000 bytes" tests/inspect/usage.out
 
