@@ -103,6 +103,16 @@ done
 "$inspect" index < / > "$work/out"
 same "index, of a directory" tests/inspect/usage.out
 
+# README.md: what the program writes for its examples
+sed -n '/^    \$ target\/bin\/inspect /,/^$/s/^    //p' README.md > "$work/examples"
+sed -n 's|^\$ target/bin/inspect ||p' "$work/examples" > "$work/arguments"
+[ -s "$work/arguments" ] || fail 'README.md: no examples'
+while IFS= read -r line; do
+    printf '$ target/bin/inspect %s\n' "$line"
+    eval "\"\$inspect\" $line"
+done < "$work/arguments" > "$work/out"
+same 'of README.md' "$work/examples"
+
 # what rpm reads from the packages
 while read -r file which tag ty element hex; do
     case $element in
