@@ -194,10 +194,10 @@ static const struct refusal refusals[] = {
     [32] = {NOWHERE,
             "writing: the name, a list or an entry is none that can be written",
             "0",
-            "a type, or a count, that no entry may have; data that is not what type and "
-            "count say, or a string without its zero byte; a tag twice; 1000 in the "
-            "signature's list; no entry for the header, or more than 512; a name that "
-            "is empty, over 65 bytes or has a zero byte",
+            "a type, or a count, that no entry of the list may have; data that is not "
+            "what type and count say, or a string without its zero byte; a tag twice; "
+            "1000 in the signature's list; no entry for the header, or more than 512; a "
+            "name that is empty, over 65 bytes or has a zero byte",
             "Correct what the host program lends. Nothing was written."},
     [33] = {NOWHERE,
             "writing: the package would be longer than 65536 bytes",
