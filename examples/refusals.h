@@ -89,11 +89,11 @@ static const struct refusal refusals[] = {
            "a newer writer, whose type 5 is a 64-bit number; a damaged record",
            "Ask the supplier for a package that uses the types of LSB 3.0 alone."},
     [10] = {INDEX_RECORD,
-            "an index record's count is 0, or not 1 for a string or translated string",
+            "an index record's count is 0, or not 1 for a string or, in the signature, "
+            "a translated string",
             RECORD_PLACE,
-            "a summary, description or group in several languages",
-            "Ask the supplier for a package in one language; if the count is 0, for one "
-            "without that record."},
+            "a damaged record; a fault of the program that wrote the package",
+            AGAIN "for a package made with another program or version."},
     [11] = {INDEX_RECORD,
             "an index record's data is not aligned: int16 to 2 bytes, int32 to 4",
             RECORD_PLACE,
@@ -130,11 +130,14 @@ static const struct refusal refusals[] = {
             AGAIN "for a package with the right size in 1000."},
     [17] = {TAG,
             "tags that belong together: one is missing, or their counts differ, or file "
-            "names stand in both forms (1027, and 1116 to 1118)",
+            "names stand in both forms (1027, and 1116 to 1118), or a text has more "
+            "translations than the package lists locales (100)",
             "the lowest missing tag, else the lowest whose count differs; 1027 where it "
-            "is at fault",
-            "tags added or dropped by hand; a script without its program",
-            "Ask the supplier for a package with all tags of that group, or none."},
+            "is at fault; of texts with too many translations the first in the index",
+            "tags added or dropped by hand; a script without its program; a summary, "
+            "description or group in more languages than 100 lists",
+            "Ask the supplier for a package with all tags of that group, or none; with "
+            "too many translations, for one that lists their locales."},
     [18] = {TAG,
             "a text: 1021 is not \"linux\"; one of 1085 to 1088 is not \"/bin/sh\"; a "
             "number of 1116 is not below the count of 1118; a string of 1118 does not "
@@ -184,15 +187,17 @@ static const struct refusal refusals[] = {
     [26] = {NOWHERE,
             "element look-up: the entry has no element of that number",
             "0",
-            "a loop that has come to the entry's end",
-            "Stop there: the lowest number that gives 26 is the entry's count."},
+            "a loop that has come to the entry's end; a text that has no translation "
+            "for that locale",
+            "Stop there: the lowest number that gives 26 is the entry's count. In place "
+            "of a missing translation show element 0."},
     [32] = {NOWHERE,
             "writing: the name, a list or an entry is none that can be written",
             "0",
-            "a type, or a count, that no entry may have; data that is not what type and "
-            "count say, or a string without its zero byte; a tag twice; 1000 in the "
-            "signature's list; no entry for the header, or more than 512; a name that "
-            "is empty, over 65 bytes or has a zero byte",
+            "a type, or a count, that no entry of the list may have; data that is not "
+            "what type and count say, or a string without its zero byte; a tag twice; "
+            "1000 in the signature's list; no entry for the header, or more than 512; a "
+            "name that is empty, over 65 bytes or has a zero byte",
             "Correct what the host program lends. Nothing was written."},
     [33] = {NOWHERE,
             "writing: the package would be longer than 65536 bytes",

@@ -287,11 +287,29 @@ static void print_index_record(struct bytes package, uint32_t place)
            number_at(package, start + 12, 4));
 }
 
+/* Whether the signature lacks a tag that the one beside it needs. */
+static bool lacks(struct bytes package, const struct group *group, uint32_t tag)
+{
+    return group->structure == SIGNATURE &&
+           entry_of(package, SIGNATURE, group->beside).count > 0 &&
+           entry_of(package, SIGNATURE, tag).count == 0;
+}
+
+/* The group that a 17 at a tag is by, or NULL. Only the last has translated strings of the
+   header; at 1005, which both structures may have, the signature's pair goes first. */
+static const struct group *group_at(struct bytes package, uint32_t tag)
+{
+    const struct group *group = group_of(tag);
+    if (entry_of(package, HEADER, tag).type != I18NSTRING)
+        return group;
+    return group != NULL && lacks(package, group, tag) ? group : &locales;
+}
+
 /* The structure whose tag is the place of a refusal. */
 static int structure_with(struct bytes package, uint32_t number, uint32_t tag)
 {
     const struct line *line = line_of(SIGNATURE, tag);
-    const struct group *group = group_of(tag);
+    const struct group *group = group_at(package, tag);
     switch (number) {
     case 14:
     case 15: /* the signature's lines go first */
@@ -326,7 +344,7 @@ static void print_header_size(struct bytes package)
 
 static void print_group(struct bytes package, uint32_t tag)
 {
-    const struct group *group = group_of(tag);
+    const struct group *group = group_at(package, tag);
     if (group == NULL)
         return;
     printf(NEXT_LINE "rule: %s", group->rule);

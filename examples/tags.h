@@ -68,15 +68,15 @@ static const struct line header_lines[] = {
     {1000, STRING, 1, REQUIRED, "RPMTAG_NAME"},
     {1001, STRING, 1, REQUIRED, "RPMTAG_VERSION"},
     {1002, STRING, 1, REQUIRED, "RPMTAG_RELEASE"},
-    {1004, I18NSTRING, 1, REQUIRED, "RPMTAG_SUMMARY"},
-    {1005, I18NSTRING, 1, REQUIRED, "RPMTAG_DESCRIPTION"},
+    {1004, I18NSTRING, ANY, REQUIRED, "RPMTAG_SUMMARY"},
+    {1005, I18NSTRING, ANY, REQUIRED, "RPMTAG_DESCRIPTION"},
     {1006, INT32, 1, OPTIONAL, "RPMTAG_BUILDTIME"},
     {1007, STRING, 1, OPTIONAL, "RPMTAG_BUILDHOST"},
     {1009, INT32, 1, REQUIRED, "RPMTAG_SIZE"},
     {1010, STRING, 1, OPTIONAL, "RPMTAG_DISTRIBUTION"},
     {1011, STRING, 1, OPTIONAL, "RPMTAG_VENDOR"},
     {1014, STRING, 1, REQUIRED, "RPMTAG_LICENSE"},
-    {1016, I18NSTRING, 1, REQUIRED, "RPMTAG_GROUP"},
+    {1016, I18NSTRING, ANY, REQUIRED, "RPMTAG_GROUP"},
     {1020, STRING, 1, OPTIONAL, "RPMTAG_URL"},
     {1021, STRING, 1, REQUIRED, "RPMTAG_OS"},
     {1022, STRING, 1, REQUIRED, "RPMTAG_ARCH"},
@@ -172,6 +172,11 @@ static const struct group groups[] = {
 #undef FILES
 #undef TOGETHER
 
+/* The last group: every translated string of the header, whatever its tag. */
+static const struct group locales = {
+    0, UINT32_MAX, HEADER, 100,
+    "it has no more translations than the package lists locales (100)"};
+
 /* The catalogue's line for a tag, or NULL. */
 static inline const struct line *line_of(int structure, uint32_t tag)
 {
@@ -187,7 +192,7 @@ static inline const struct line *line_of(int structure, uint32_t tag)
     return NULL;
 }
 
-/* The group whose fault a tag is the place of, or NULL. */
+/* The group but the last whose fault a tag may be the place of, or NULL. */
 static inline const struct group *group_of(uint32_t tag)
 {
     for (size_t i = 0; i < sizeof groups / sizeof groups[0]; i++)

@@ -37,7 +37,8 @@
  *    8      the structure passes the package's end       offset of its store size
  *    9      a record's type is none of 1-4 and 6-9       offset of the record
  *   10      a record's count is 0, or not 1 for a        offset of the record
- *           string (6) or translated string (9)
+ *           string (6) or, in the signature, a
+ *           translated string (9)
  *   11      a record's data is not aligned: int16 to 2,  offset of the record
  *           int32 to 4
  *   12      a record's data is not all inside the store  offset of the record
@@ -49,7 +50,9 @@
  *           the header's start to the package's end
  *   17      tags that belong together: one is missing,   the lowest missing tag,
  *           or their counts differ, or file names stand  else the lowest whose
- *           in both forms (1027 and 1116 to 1118)        count differs; 1027
+ *           in both forms (1027 and 1116 to 1118);       count differs; 1027;
+ *           or a translated string (9) of the header     the first such tag in the
+ *           has more strings than tag 100 has locales    index
  *   18      a text: 1021 is not "linux", one of 1085 to  the tag
  *           1088 is not "/bin/sh", a number of 1116 is
  *           not below the count of 1118, a string of
@@ -155,6 +158,12 @@ uint64_t station_find(const uint8_t *package, size_t package_len,
  * The rest is as for station_find. On success the place is the offset of the
  * element's first byte: a char, int8 or bin element is one byte, an int16 two, an
  * int32 four, and a string runs up to and with its zero byte.
+ *
+ * The elements of a translated string (9) go by locale number: element i is the text
+ * in the locale that element i of the header's tag 100, a string array (8), names. A
+ * text may have fewer strings than there are locales; for a locale at or above its
+ * count it is 26. Where 100 is "C", "de", "fr" and the summary, 1004, is "Notes",
+ * "Notizen", its element 1 is the text in "de", and 2 is 26.
  */
 uint64_t station_find_element(const uint8_t *package, size_t package_len,
                               uint32_t structure, uint32_t tag, uint32_t type,
@@ -201,15 +210,17 @@ uint64_t station_find_element(const uint8_t *package, size_t package_len,
  *       - the signature's list is over 511 entries (512 with 1000) or holds 1000;
  *         the header's list is empty or over 512 entries;
  *       - an entry's type is none of 1-4 and 6-9; its count is 0, or not 1 for a
- *         string (6) or translated string (9); an earlier entry of its list has
- *         its tag; or its data is not exactly what type and count say
+ *         string (6) or, in the signature's list, a translated string (9); an
+ *         earlier entry of its list has its tag; or its data is not exactly what
+ *         type and count say
  *   33  the package would be longer than 65,536 bytes
  *   34  the package buffer is shorter than the package; with the place's number of
  *       bytes, or STATION_PACKAGE_ROOM, it is written
  *
  * What is written passes checks 2 to 13, and 16: the look-ups show each entry with
- * its data. Whether station_read accepts it is up to the entries: read it before
- * you send it out. examples/make_book.c does.
+ * its data. Whether station_read accepts it is up to the entries: a translated
+ * string, say, that has more strings than tag 100 is written, and refused when it is
+ * read (17). Read it before you send it out. examples/make_book.c does.
  */
 uint64_t station_write(const uint8_t *name, size_t name_len,
                        const uint8_t *signature, size_t signature_len,

@@ -30,7 +30,10 @@ gives "$data/check03_empty" 'refused 3 at 0'
 gives tests/data/house-one-region.rpm 'edition 2' '27 1250' 'total 1250'
 gives tests/data/house-make-64.rpm 'edition 2' '27 1250' 'total 1250'
 gives tests/data/rb-one.rpm 'refused 14 at 20001'
-gives tests/data/rb-i18n.rpm 'refused 10 at 4600'
+gives tests/data/rb-i18n.rpm 'refused 14 at 20001'
+gives "$data/locales_right" 'edition 2' '27 1250' 'total 1250'
+gives "$data/check17_locales" 'refused 17 at 1004'
+gives "$data/check10_signature_translated" 'refused 10 at 128'
 
 # 585 doses of 1250 mg
 lines=('edition 2')

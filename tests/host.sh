@@ -74,6 +74,8 @@ accepts "--edition 1 $data/check23_sum" "${title/2/1}" 'oxide  27     1250 mg' '
 accepts "$data/book_two_kinds" "$title" 'oxide  27     1250 mg' 'oxide   1        1 mg' '2 doses, 1251 mg in all'
 accepts "$data/book_most_milligrams" "$title" 'oxide  27  5000000 mg' '1 dose, 5000000 mg in all'
 accepts "$data/book_no_doses" "$title" '0 doses, 0 mg in all'
+accepts "$data/locales_right" "$title" 'oxide  27     1250 mg' '1 dose, 1250 mg in all'
+accepts "--edition 1 $data/locales_right" "${title/2/1}" 'oxide  27     1250 mg' '1 dose, 1250 mg in all'
 lines=()
 for _ in $(seq 585); do lines+=('oxide  27     1250 mg'); done
 accepts "$data/book_limit" "$title" "${lines[@]}" '585 doses, 731250 mg in all'
@@ -105,6 +107,9 @@ refuses "$data/check07_513" 7 144 'records: 513'
 refuses "$data/check08_largest" 8 148 'bytes of store: 4294967295, bytes of the package: 251'
 refuses "$data/check09_type_5" 9 152 "record 1 of 4 in the header's index" 'tag 1000 (RPMTAG_NAME), type 5'
 refuses "$data/check10_none" 10 168 "record 2 of 4 in the header's index" 'count 0'
+refuses "$data/check10_two_strings" 10 152 'tag 1000 (RPMTAG_NAME), type 6' 'count 2'
+refuses "$data/check10_signature_translated" 10 128 "record 2 of 2 in the signature's index" 'tag 1016, type 9' 'count 2'
+refuses "$data/check10_translated_none" 10 152 "the header's index" 'tag 1016 (RPMTAG_GROUP), type 9' 'count 0'
 refuses "$data/check11_int32_at_2" 11 152 'tag 1, type 4, offset 2, count 1; bytes of store: 8'
 refuses "$data/check12_product_wraps" 12 152 'count 1073741824'
 refuses "$data/check13_tag_twice" 13 200 'record 4 of 4'
@@ -116,6 +121,16 @@ refuses "$data/check16_whole_length" 16 1000 '2000 (00 00 07 D0)' 'starts at 168
 refuses "$data/check17_digest_alone" 17 1005 "the signature's tag 1005 (SIGTAG_GPG) is absent" '1011 needs it'
 refuses "$data/check17_leader_missing" 17 1081 '1080, 1081, 1082'
 refuses "$data/check17_old_names" 17 1027 'beside it no 1116 to 1118'
+locales='rule: it has no more translations than the package lists locales (100)'
+refuses "$data/check17_locales" 17 1004 "the header's tag 1004 (RPMTAG_SUMMARY) is translated string, count 3" "$locales" \
+    "the header's tag 100 (RPMTAG_HEADERI18NTABLE) is string array, count 1"
+refuses "--edition 1 $data/check17_locales" 17 1004 "$locales"
+refuses "$data/check17_locales_one_too_many" 17 1004 'is translated string, count 3' 'is string array, count 2' "$locales"
+refuses "$data/check17_locales_description" 17 1005 "the header's tag 1005 (RPMTAG_DESCRIPTION) is translated" "$locales"
+refuses "$data/check17_locales_no_line" 17 30000 "the header's tag 30000 is translated string, count 3" "$locales"
+refuses "$data/check17_locales_index_order" 17 30000 "$locales"
+refuses "$data/check17_digest_before_locales" 17 1005 "the signature's tag 1005 (SIGTAG_GPG) is absent" '1011 needs it'
+refuses "$data/check17_leader_before_locales" 17 1081 '1080, 1081, 1082'
 refuses "$data/check18_system" 18 1021 '(RPMTAG_OS)' '"linuxx"'
 refuses "$data/check18_index" 18 1116 '1 (00 00 00 01)'
 refuses "$data/check18_directory" 18 1118 '"/usr/share"'
@@ -127,7 +142,7 @@ refuses "$data/check22_oxide_1000" 22 0 'oxide 1000, 1250 mg'
 refuses "$data/check22_milligrams" 22 0 'oxide 27, 5000001 mg'
 refuses "$data/check23_sum" 23 20002 '1249 (00 00 04 E1)' 'the doses sum to 1250 mg'
 refuses tests/data/rb-one.rpm 14 20001
-refuses tests/data/rb-i18n.rpm 10 4600 'RPMTAG_SUMMARY' 'count 4'
+refuses tests/data/rb-i18n.rpm 14 20001
 
 # 24 cannot come up: the program has room for every book
 for number in $(seq 23); do
@@ -149,6 +164,12 @@ if [ -n "$python" ]; then
     refuses "$work/made" 15 1004 "the signature's tag 1004 (SIGTAG_MD5) is bin, count 1" 'right is bin, count 16'
     made --entry 1007:int32:7,8
     refuses "$work/made" 15 1007 "the header's tag 1007 (RPMTAG_BUILDHOST) is int32, count 2" '7 (00 00 00 07), ..'
+    made --entry 1004:string:Blue
+    refuses "$work/made" 15 1004 "the header's tag 1004 (RPMTAG_SUMMARY) is string" 'right is translated string, any count'
+    # a tag without a line, between those of the files
+    made --entry 1031:strings:a,b
+    LC_ALL=C sed 's/\x04\x07\x00\x00\x00\x08/\x04\x07\x00\x00\x00\x09/' "$work/made" > "$work/translated"
+    refuses "$work/translated" 17 1031 "the header's tag 1031 is translated string, count 2" "$locales"
     made --signature-entry 1012:bin:0102
     refuses "$work/made" 17 1002 "the signature's tag 1002 (SIGTAG_PGP) is absent"
     made --entry 1050:strings:a
@@ -241,14 +262,14 @@ END
 gcc -std=c11 -O2 -Wall -Wextra -Werror -pedantic -Iinclude "$work/lists.c" "$lib" -o "$work/lists"
 "$work/lists" || fail 'include/station.h: its lists are not written'
 
-# examples/tags.h has the lines of 000's tables, but for document 01's exceptions
+# examples/tags.h has the lines of 000's tables, but for the exceptions of documents 01 and 02
 awk -F ' *[|] *' '
     /^Table/ { table = substr($1, 9) + 0 }
     $2 ~ /^[0-9]+$/ {
         count = $4 ~ /^[0-9]+$/ ? $4 : "ANY"
         required = $4 == "Required" || $5 == "Required" ? "REQUIRED" : "OPTIONAL"
         if (table <= 7) print 0, $2, $3, $2 ~ /^10(02|05|11|12)$/ ? "ANY" : count, $2 == 100 ? "OPTIONAL" : required, $1
-        if (table == 4 || table > 7) print 1, $2, $3, $2 ~ /^(1047|1114)$/ ? "ANY" : count, required, $1
+        if (table == 4 || table > 7) print 1, $2, $3, $2 ~ /^(1004|1005|1016|1047|1114)$/ ? "ANY" : count, required, $1
     }' tests/reference/tables.txt | sort > "$work/printed"
 awk -F '[{}, "]+' '
     /signature_lines.. =/ { structure = 0 }

@@ -33,9 +33,11 @@ made() {
     cat "$1"
 }
 
-# input SPEC: a package of tests/data; PACKAGE:N is its first N bytes, with zeros behind where it has fewer
+# input SPEC: a package of tests/data; PACKAGE:N is its first N bytes, with zeros behind where it has fewer;
+# samples/NAME is a package of crates/samples/data
 input() {
     case $1 in
+        samples/*) cat "crates/samples/data/${1#samples/}" ;;
         *:*) { cat "tests/data/${1%:*}"; head -c 65537 /dev/zero; } > "$work/long"; head -c "${1#*:}" "$work/long" ;;
         *) cat "tests/data/$1" ;;
     esac
@@ -86,8 +88,8 @@ same "index 1, in two pieces" tests/inspect/rb-one-index-1.out
 long=$(head -c 100000 /dev/zero | tr '\0' a)
 "$inspect" requires "$long" < tests/data/rb-one.rpm > "$work/out"
 same "requires NAME, of 100,000 bytes" tests/inspect/empty-line.out
-"$inspect" requires "$long" < tests/data/rb-i18n.rpm > "$work/out"
-same "requires NAME, of 100,000 bytes, refused" tests/inspect/refused-10.out
+"$inspect" requires "$long" < crates/samples/data/check10_two_strings > "$work/out"
+same "requires NAME, of 100,000 bytes, refused" tests/inspect/refused-10-152.out
 "$inspect" "$long" < tests/data/rb-one.rpm > "$work/out"
 same "a command of 100,000 bytes" tests/inspect/usage.out
 
@@ -100,6 +102,16 @@ for arguments in 'index 0' 'find 1 1000 6' 'element 1 1000 6 0' 'requires x'; do
 done
 "$inspect" index < / > "$work/out"
 same "index, of a directory" tests/inspect/usage.out
+
+# README.md: what the program writes for its examples
+sed -n '/^    \$ target\/bin\/inspect /,/^$/s/^    //p' README.md > "$work/examples"
+sed -n 's|^\$ target/bin/inspect ||p' "$work/examples" > "$work/arguments"
+[ -s "$work/arguments" ] || fail 'README.md: no examples'
+while IFS= read -r line; do
+    printf '$ target/bin/inspect %s\n' "$line"
+    eval "\"\$inspect\" $line"
+done < "$work/arguments" > "$work/out"
+same 'of README.md' "$work/examples"
 
 # what rpm reads from the packages
 while read -r file which tag ty element hex; do

@@ -34,6 +34,10 @@ DOCUMENT_002 = (
     + raw([(1000, INT32, 0, 1), (1001, BIN, 4, 16), (1002, BIN, 20, 152)], struct.pack('>I', 0x44C4F) + bytes([0x55]) * 168)
     + bytes(4) + HEADER)
 
+# An entry with a string for each of two locales.
+TWO_LOCALES = (1016, I18N, [b'Books', b'Livres'])
+HEADER_TRANSLATED = package(SIGNATURE, structure([TWO_LOCALES]))
+
 SAMPLES = {
     'right': RIGHT,
     'document_002': DOCUMENT_002,
@@ -65,6 +69,9 @@ SAMPLES = {
     'check09_type_10': word(H + 16 + 4, 10),
     'check10_none': word(H + 32 + 12, 0),
     'check10_two_strings': word(H + 16 + 12, 2),
+    'check10_signature_translated': package(structure([(1000, INT32, [1250]), TWO_LOCALES]), HEADER, b'payload'),
+    'check10_translated_none': word(H + 16 + 12, 0, HEADER_TRANSLATED),
+    'header_translated': HEADER_TRANSLATED,
     'check11_int32_at_2': header((1, INT32, 2, 1)),
     'check12_int32_count_2': header((1, INT32, 4, 2)),
     'check12_product_wraps': header((1, INT32, 4, 0x40000000)),
@@ -75,8 +82,11 @@ SAMPLES = {
     'store8_string_at_7': header((1, STRING, 7, 1), b'1234567\0'),
 }
 
-def accepted(book, batch=None, signature=(), header=(), drop=(), payload=b''):
-    """A package that the reading accepts at edition 2: header entries by tag, with some changed, added or dropped."""
+def accepted(book, batch=None, signature=(), header=(), drop=(), payload=b'', first=None):
+    """A package that the reading accepts at edition 2: header entries by tag, with some changed, added or dropped.
+
+    The header's tags rise, but for one that stands first.
+    """
     weight = sum_of(book) if batch is None else batch
     entries = {
         100: (STRINGS, [b'C']), 1000: (STRING, b'book'), 1001: (STRING, b'1'), 1002: (STRING, b'1'),
@@ -93,7 +103,8 @@ def accepted(book, batch=None, signature=(), header=(), drop=(), payload=b''):
     entries.update(dict(header))
     for tag in drop:
         del entries[tag]
-    bits = structure([(tag, ty, value) for tag, (ty, value) in sorted(entries.items())]) + payload
+    tags = sorted(entries, key=lambda tag: (tag != first, tag))
+    bits = structure([(tag, *entries[tag]) for tag in tags]) + payload
     signs = {1000: (INT32, [len(bits)]), 1004: (BIN, hashlib.md5(bits).digest())}
     signs.update(dict(signature))
     return package(structure([(tag, ty, value) for tag, (ty, value) in sorted(signs.items())]), bits)
@@ -116,6 +127,13 @@ def book(text):
     return accepted(bytes.fromhex(text))
 
 
+# Texts in up to three locales; 30000 is a tag without a line.
+TRANSLATED = {
+    1004: (I18N, [b'A book', b'Ein Buch', b'Un livre']),
+    1005: (I18N, [b'A recipe book', b'Ein Rezeptbuch']),
+    30000: (I18N, [b'blue', b'blau', b'bleu']),
+}
+
 READINGS = {
     'book_example': book('02 0007 86 001B 000004E2'),
     'book_no_doses': book('00'),
@@ -130,6 +148,14 @@ READINGS = {
     'check17_digest_alone': accepted(DOSE, signature={1011: (BIN, b'1')}),
     'check17_leader_missing': accepted(DOSE, header={1080: (INT32, [0]), 1082: (STRINGS, [b''])}),
     'check17_old_names': accepted(DOSE, header={1027: (STRINGS, [b'/book'])}),
+    'locales_right': accepted(DOSE, header={100: (STRINGS, [b'C', b'de', b'fr']), **TRANSLATED}),
+    'check17_locales': accepted(DOSE, header={1004: TRANSLATED[1004]}),
+    'check17_locales_description': accepted(DOSE, header={1005: TRANSLATED[1005]}),
+    'check17_locales_no_line': accepted(DOSE, header={30000: TRANSLATED[30000]}),
+    'check17_locales_index_order': accepted(DOSE, header=TRANSLATED, first=30000),
+    'check17_locales_one_too_many': accepted(DOSE, header={100: (STRINGS, [b'C', b'de']), **TRANSLATED}),
+    'check17_digest_before_locales': accepted(DOSE, signature={1011: (BIN, b'1')}, header=TRANSLATED),
+    'check17_leader_before_locales': accepted(DOSE, header={1080: (INT32, [0]), 1082: (STRINGS, [b'']), **TRANSLATED}),
     'check18_system': accepted(DOSE, header={1021: (STRING, b'linuxx')}),
     'check18_index': accepted(DOSE, header={1116: (INT32, [1])}),
     'check18_directory': accepted(DOSE, header={1118: (STRINGS, [b'/usr/share'])}),

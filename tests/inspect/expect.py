@@ -10,6 +10,7 @@ import struct
 SIZE = {1: 1, 2: 1, 3: 2, 4: 4, 7: 1}
 ALIGN = {3: 2, 4: 4}
 STRINGS = (6, 8, 9)
+HERE = pathlib.Path(__file__).resolve().parent
 
 
 class Refused(Exception):
@@ -48,8 +49,11 @@ def data_end(store, ty, offset, count):
     return offset
 
 
-def structure(p, start):
-    """The records of a structure, each with its place and its data's place and bytes; and the structure's end."""
+def structure(p, start, single):
+    """The records of a structure, each with its place and its data's place and bytes; and the structure's end.
+
+    The types of `single` have a count of 1.
+    """
     if len(p) < start + 16:
         refuse(5, start)
     magic, reserved, nindex, hsize = struct.unpack_from('>4I', p, start)
@@ -68,7 +72,7 @@ def structure(p, start):
         tag, ty, offset, count = struct.unpack_from('>4I', p, place)
         if ty not in SIZE and ty not in STRINGS:
             refuse(9, place)
-        if count == 0 or (ty in (6, 9) and count != 1):
+        if count == 0 or (ty in single and count != 1):
             refuse(10, place)
         if offset % ALIGN.get(ty, 1):
             refuse(11, place)
@@ -84,8 +88,8 @@ def structure(p, start):
 
 def opened(p):
     lead(p)
-    signature, end = structure(p, 96)
-    header, _ = structure(p, (end + 7) // 8 * 8)
+    signature, end = structure(p, 96, single=(6, 9))
+    header, _ = structure(p, (end + 7) // 8 * 8, single=(6,))
     return signature, header
 
 
@@ -133,20 +137,26 @@ def expected(p, args):
         return 'refused %d at %d\n' % r.args
 
 
+def package(spec):
+    """The bytes of a package that a case names."""
+    tests = HERE.parent
+    file, _, size = spec.partition(':')
+    if file.startswith('samples/'):
+        return (tests.parent / 'crates/samples/data' / file[len('samples/'):]).read_bytes()
+    p = (tests / 'data' / file).read_bytes()
+    return (p + bytes(65537))[:int(size)] if size else p
+
+
 def main():
-    here, texts = pathlib.Path(__file__).parent, {}
-    for line in (here / 'cases.txt').read_text().split('\n'):
+    texts = {}
+    for line in (HERE / 'cases.txt').read_text().split('\n'):
         words = shlex.split(line, comments=True)
         if not words or words[0] == 'usage':
             continue
-        file, _, size = words[1].partition(':')
-        p = (here.parent / 'data' / file).read_bytes()
-        if size:
-            p = (p + bytes(65537))[:int(size)]
-        text = expected(p, words[2:])
+        text = expected(package(words[1]), words[2:])
         assert texts.setdefault(words[0], text) == text, line
     for name, text in texts.items():
-        (here / (name + '.out')).write_text(text)
+        (HERE / (name + '.out')).write_text(text)
 
 
 main()

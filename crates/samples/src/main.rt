@@ -130,6 +130,14 @@ fn records() {
     find(b"store8_string_at_7", 1, 6);
 }
 
+fn translated() {
+    find(b"header_translated", 1016, 9);
+    find(b"header_translated", 1016, 8);
+    find(b"check10_translated_none", 1016, 9);
+    find(b"check10_signature_translated", 1000, 6);
+    find(b"locales_right", 1004, 9);
+}
+
 fn books() {
     read(b"book_example", 0);
     read(b"book_example", 1);
@@ -158,6 +166,19 @@ fn rules() {
     read(b"check18_directory", 2);
 }
 
+fn locales() {
+    read(b"locales_right", 1);
+    read(b"locales_right", 2);
+    read(b"check17_locales", 1);
+    read(b"check17_locales", 2);
+    read(b"check17_locales_one_too_many", 2);
+    read(b"check17_locales_description", 2);
+    read(b"check17_locales_no_line", 2);
+    read(b"check17_locales_index_order", 2);
+    read(b"check17_digest_before_locales", 2);
+    read(b"check17_leader_before_locales", 2);
+}
+
 fn book_records() {
     read(b"check19_4097_bytes", 2);
     read(b"check20_kind_96", 2);
@@ -177,8 +198,10 @@ fn main() {
     leads();
     structures();
     records();
+    translated();
     books();
     rules();
+    locales();
     book_records();
     write(b"written_smallest");
 }
