@@ -3,11 +3,12 @@ use lib.Dec.{T}
 use Rattle.be.specs.Numbers.{be16At, be32At}
 use Rattle.be.specs.Bytes.{sameBytes}
 use Rattle.strings.specs.Strings.{stringsFrom}
-use Rattle.format.specs.Verdicts.{check, both}
+use Rattle.format.specs.Verdicts.{check, both, runFrom}
 use Rattle.entries.specs.Types.{elementSize}
 use Rattle.entries.specs.Entries.{countRight, dataEnd, entryCheck}
 use Rattle.repeats.specs.Repeats.{tagBefore}
 use Rattle.structure.specs.Structure.{headerCheck, recordsFrom, structureCheck}
+use Rattle.locales.specs.Locales.{localeCheck}
 use Rattle.book.specs.Kinds.{isKnown}
 use Rattle.book.specs.Book.{placesFrom, doseLawful, recordCheck, recordsCheck, lengthCheck, bookCheck}
 use Rattle.book.specs.Doses.{dosesOf}
@@ -18,8 +19,8 @@ use Rattle.samples.specs.Samples.{samples, allRight}
 use Rattle.samples.specs.Written.{smallestRight}
 
 pub samples-right : T (allRight samples)
-unfolding be16At be32At sameBytes stringsFrom check both elementSize countRight dataEnd tagBefore entryCheck headerCheck recordsFrom
-    structureCheck isKnown placesFrom doseLawful recordCheck recordsCheck lengthCheck bookCheck dosesOf numbersOf
+unfolding be16At be32At sameBytes stringsFrom check both runFrom elementSize countRight dataEnd tagBefore entryCheck headerCheck recordsFrom
+    structureCheck localeCheck isKnown placesFrom doseLawful recordCheck recordsCheck lengthCheck bookCheck dosesOf numbersOf
 samples-right = tt
 
 pub smallest-right : T smallestRight

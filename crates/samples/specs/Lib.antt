@@ -1,4 +1,5 @@
 pub mod Stores
 pub mod Books
+pub mod Locales
 pub mod Samples
 pub mod Written

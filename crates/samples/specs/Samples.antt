@@ -1,19 +1,22 @@
--- Document 01, "Bench samples": those marked P, as a single list.
+-- Document 01, "Bench samples": those marked P, and request 2's, as a single list.
 use mathlib.Core.List.{List, [], _∷_, _++_, map}
 use mathlib.Core.Bool.{Bool, true, _&&_}
 use Rattle.samples.specs.Stores as stores
 use Rattle.samples.specs.Books as books
+use Rattle.samples.specs.Locales as locales
 
 pub data Sample : Type 0 where
   Store : stores.Sample → Sample
   Book : books.BookSample → Sample
+  Locale : locales.LocaleSample → Sample
 
 abbrev pub samples : List Sample
-samples = map Book books.books ++ map Store stores.samples
+samples = map Book books.books ++ map Store stores.samples ++ map Locale locales.locales
 
 abbrev pub isRight : Sample → Bool
 isRight (Store sample) = stores.isRight sample
 isRight (Book sample) = books.bookRight sample
+isRight (Locale sample) = locales.localeRight sample
 
 abbrev pub allRight : List Sample → Bool
 allRight [] = true
