@@ -83,11 +83,11 @@ pub(crate) const CATALOGUE: [u32; Line::NUMBERS] = [
     1, // 1002 required
     1004,
     9, // 1004 translated
-    0, // 1004 any, by locale
+    0, // 1004 by locale
     1, // 1004 required
     1005,
     9, // 1005 translated
-    0, // 1005 any, by locale
+    0, // 1005 by locale
     1, // 1005 required
     // table 1-14
     1006,
@@ -117,7 +117,7 @@ pub(crate) const CATALOGUE: [u32; Line::NUMBERS] = [
     1, // 1014 required
     1016,
     9, // 1016 translated
-    0, // 1016 any, by locale
+    0, // 1016 by locale
     1, // 1016 required
     1020,
     6, // 1020 string
