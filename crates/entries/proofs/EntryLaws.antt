@@ -29,16 +29,21 @@ use Rattle.repeats.specs.Repeats.{tagBefore}
 use Rattle.entries.specs.Entries.{dataCheck, entryCheck}
 use Rattle.entries.proofs.TypeLaws.{bytes-small}
 
--- types of one element only, by the structure
-module _ {structure : Structure} (ty : ℕ) where
-  pub signed-six : structure ≡ Signature → ty ≡ 6 → eqb ty 6 ≡ isSingle structure ty
-  signed-six h k = rw (h, eq-eqb ty 6 k)
+-- types of one element only
+pub single-six : (structure : Structure) (ty : ℕ) → ty ≡ 6 → true ≡ isSingle structure ty
+single-six Signature ty h = rw (eq-eqb ty 6 h)
+single-six Header ty h = rw (eq-eqb ty 6 h)
 
-  pub signed-other : structure ≡ Signature → (ty ≡ 6 → ⊥) → eqb ty 9 ≡ isSingle structure ty
-  signed-other h k = rw (h, ne-eqb ty 6 k)
+pub single-not : (structure : Structure) (ty : ℕ) → (ty ≡ 6 → ⊥) → (ty ≡ 9 → ⊥) → false ≡ isSingle structure ty
+single-not Signature ty k n = rw (ne-eqb ty 6 k, ne-eqb ty 9 n)
+single-not Header ty k n = rw (ne-eqb ty 6 k)
 
-  pub headed : structure ≡ Header → eqb ty 6 ≡ isSingle structure ty
-  headed h = rw h
+module _ {structure : Structure} (ty : ℕ) (k : ty ≡ 6 → ⊥) where
+  pub nine-signed : ty ≡ 9 → structure ≡ Signature → true ≡ isSingle structure ty
+  nine-signed n h = rw (h, ne-eqb ty 6 k, eq-eqb ty 9 n)
+
+  pub nine-headed : structure ≡ Header → false ≡ isSingle structure ty
+  nine-headed h = rw (h, ne-eqb ty 6 k)
 
 -- the count, by what the type says
 module _ (structure : Structure) (e : IndexRecord) {r : Bool} (q : r ≡ isSingle structure (e .ty)) where

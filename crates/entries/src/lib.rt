@@ -20,9 +20,15 @@ use types::element_size;
 fn is_single(structure: Structure, ty: u32) -> bool
     ensures { λ r. ⌜ r ≡ isSingle structure ty ⌝ }
 {
+    if ty == 6 {
+        return true;
+    }
+    if ty != 9 {
+        return false;
+    }
     match structure {
-        Structure::Signature => ty == 6 || ty == 9,
-        Structure::Header => ty == 6,
+        Structure::Signature => true,
+        Structure::Header => false,
     }
 }
 
