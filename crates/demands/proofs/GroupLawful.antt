@@ -18,7 +18,7 @@ use Rattle.files.specs.Files.{oldNamesRight, newNamesCheck, namesCheck}
 use Rattle.locales.specs.Locales.{localesCheck}
 use Rattle.locales.proofs.OrderLaws.{locales-pass}
 use Rattle.groups.specs.Groups.{ledGroups, groupsCheck}
-use Rattle.demands.specs.Lawful.{HasTag, WhereTagged, SameCount, Needs, Each, LawfulGroups}
+use Rattle.demands.specs.Lawful.{HasTag, WhereTagged, SameCount, Needs, Each, LawfulLocales, LawfulGroups}
 use Rattle.demands.proofs.PassIff.{check-iff, last-iff, both-iff, eqb-iff, choice-iff, unless-iff, not-iff}
 use Rattle.demands.proofs.TagLawful.{has-tag, lacks-tag}
 use Rattle.demands.proofs.FoundLawful.{Apart, count-rule, counted-iff, same-count-iff}
@@ -79,11 +79,6 @@ module _ (s : List ℕ) (header : Section) (apart : Apart s header) (led : HasTa
       (λ h. (λ k. old-lawful k .0 (h .0 k), h .1), λ h. (λ k. old-lawful k .1 (h .0 k), h .1))
 
 -- translated strings, with the count of 100
-abbrev Locales : List ℕ → Section → Type 0
-Locales s header =
-    (i : ℕ) → i < header .nindex → recordAt s header i .ty ≡ 9
-    → WhereTagged s header 100 (λ (e : IndexRecord). recordAt s header i .count ≤ e .count)
-
 module _ (s : List ℕ) (header : Section) (apart : Apart s header) (listed : HasTag s header 100) where
   abbrev most : ℕ
   most = countIn (taggedIn s header) 100
@@ -91,7 +86,7 @@ module _ (s : List ℕ) (header : Section) (apart : Apart s header) (listed : Ha
   at-most : (n : ℕ) → (n ≤ most) ↔ WhereTagged s header 100 (λ (e : IndexRecord). n ≤ e .count)
   at-most n = count-rule s header apart 100 (λ (count : ℕ). n ≤ count) listed
 
-  locales-lawful : (localesCheck s header most ≡ Pass) ↔ Locales s header
+  locales-lawful : (localesCheck s header most ≡ Pass) ↔ LawfulLocales s header
   locales-lawful =
       let pass = locales-pass s header most in (
         λ h i l t.

@@ -111,6 +111,12 @@ abbrev pub Each : {A : Type 0} → List A → (A → Type 0) → Type 0
 Each [] Rule = Unit
 Each (one ∷ rest) Rule = Rule one × Each rest Rule
 
+-- every type 9 entry of the header has at most as many strings as tag 100
+abbrev pub LawfulLocales : List ℕ → Section → Type 0
+LawfulLocales s header =
+    (i : ℕ) → i < header .nindex → recordAt s header i .ty ≡ 9
+    → WhereTagged s header 100 (λ (e : IndexRecord). recordAt s header i .count ≤ e .count)
+
 pub record LawfulGroups (s : List ℕ) (signature header : Section) : Type 0 where
   -- the signature's 1011 needs its 1005; its 1012 needs its 1002
   pub dsa : Needs s signature 1011 1005
@@ -136,9 +142,7 @@ pub record LawfulGroups (s : List ℕ) (signature header : Section) : Type 0 whe
   pub conflicts : LawfulLed s header 1054 1053 1054 1055
   pub obsoletes : LawfulLed s header 1090 1090 1114 1115
   pub changes : LawfulLed s header 1081 1080 1081 1082
-  -- every type 9 entry of the header has at most as many strings as tag 100
-  pub locales : (i : ℕ) → i < header .nindex → recordAt s header i .ty ≡ 9
-      → WhereTagged s header 100 (λ (e : IndexRecord). recordAt s header i .count ≤ e .count)
+  pub locales : LawfulLocales s header
 
 -- the bytes from the data of every record that has a tag on are a text
 abbrev pub TextIs : List ℕ → Section → ℕ → List ℕ → Type 0

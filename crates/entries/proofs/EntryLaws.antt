@@ -1,22 +1,20 @@
 -- Laws of one index record's rules, for each way through the functions that test them.
-use Prim.Native.Nat.{ℕ, suc, _+_, _-_, _*_, _%_, _≤_, _<_, _^_}
+use Prim.Native.Nat.{ℕ, _+_, _-_, _*_, _%_, _≤_, _<_, _^_}
 use mathlib.Core.Path.{_≡_, refl, sym, ap, _∙_}
 use mathlib.Core.List.{List, []}
-use mathlib.Core.Bool.{Bool, true, false, not, _||_}
-use lib.ListN.{getD}
+use mathlib.Core.Bool.{Bool, true, false, not}
 use lib.Dec.{eqb, leb}
 use native.Mathlib.Omega.{arith}
 use native.Mathlib.Nat.{mul-le-mul-right}
 use borrow.Author.Tests.{eq-eqb, ne-eqb, le-leb, lt-leb, not-true, not-false}
 use Rattle.strings.specs.declared.Ending.{Ending}
 use Rattle.strings.specs.declared.Ending.the-variants.{Ends, Open}
-use Rattle.be.specs.Numbers.{be32At}
 use Rattle.strings.specs.Strings.{stringsFrom, isEnded}
 use Rattle.format.specs.declared.section.Section.{Section}
 use Rattle.format.specs.declared.section.Structure.{Structure}
 use Rattle.format.specs.declared.section.Structure.the-variants.{Signature, Header}
 use Rattle.format.specs.declared.records.IndexRecord.{IndexRecord}
-use Rattle.format.specs.Places.{recordPlace, inFile, sectionEnd}
+use Rattle.format.specs.Places.{inFile, sectionEnd}
 use Rattle.entries.specs.declared.types.ElementSize.{ElementSize}
 use Rattle.entries.specs.declared.types.ElementSize.the-variants.{Bytes, ToZero, Unlawful}
 use Rattle.entries.specs.Types.{elementSize, isLawful}

@@ -1,11 +1,10 @@
 -- Document 01, "Header structure": the rules of one index record, each check from 9 to 13 by itself.
-use Prim.Native.Nat.{ℕ, zero, suc, _+_, _-_, _*_, _%_}
+use Prim.Native.Nat.{ℕ, _+_, _-_, _*_, _%_}
 use mathlib.Core.List.{List}
-use mathlib.Core.Bool.{Bool, true, false, cond, not, _||_}
+use mathlib.Core.Bool.{Bool, true, cond, not, _||_}
 use lib.Dec.{eqb, leb}
 use Rattle.strings.specs.declared.Ending.{Ending}
 use Rattle.strings.specs.declared.Ending.the-variants.{Ends, Open}
-use Rattle.be.specs.Numbers.{be32At}
 use Rattle.strings.specs.Strings.{stringsFrom, isEnded}
 use Rattle.format.specs.declared.section.Section.{Section}
 use Rattle.format.specs.declared.section.Structure.{Structure}

@@ -9,7 +9,7 @@ use native.Mathlib.Omega.{arith}
 use borrow.Author.Tests.{ltb-true, ltb-false}
 use Rattle.format.specs.declared.verdict.Verdict.{Verdict}
 use Rattle.format.specs.declared.verdict.Verdict.the-variants.{Pass, Fail}
-use Rattle.format.specs.Verdicts.{both, runFrom}
+use Rattle.format.specs.Verdicts.{runFrom}
 use Rattle.format.proofs.VerdictLaws.{both-pass, both-fail, both-inverted}
 use Rattle.format.proofs.RunLaws as run
 

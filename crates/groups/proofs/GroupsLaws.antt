@@ -1,12 +1,11 @@
 -- The pairs and the led groups as runs of checks (signature-run, script-run, led-run), and check 17 with the file groups as one
 -- (groups-as).
-use Prim.Native.Nat.{ℕ, _+_, _*_}
-use mathlib.Core.Path.{_≡_, refl, sym, ap, _∙_}
+use Prim.Native.Nat.{ℕ}
+use mathlib.Core.Path.{_≡_, sym, ap}
 use mathlib.Core.List.{List, [], _∷_}
 use lib.ListN.{getD}
 use Rattle.format.specs.declared.section.Section.{Section}
 use Rattle.format.specs.declared.verdict.Verdict.{Verdict}
-use Rattle.format.specs.declared.verdict.Verdict.the-variants.{Pass}
 use Rattle.format.specs.Verdicts.{both, runFrom}
 use Rattle.format.proofs.RunLaws.{both-end, both-assoc}
 use Rattle.tags.specs.Tags.{Look, countIn}

@@ -1,7 +1,6 @@
 // Groups of tags, those of the files among them: check 17.
 // All but the last group ask the records that were gathered.
 ghost use mathlib.Core.Path.{_≡_};
-ghost use Prim.Native.Nat.{ℕ};
 ghost use mathlib.Core.Bool.{_||_};
 ghost use Rattle.tags.specs.Tags.{has};
 ghost use Rattle.tags.specs.Tables.{shownBy};

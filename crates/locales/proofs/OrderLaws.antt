@@ -1,21 +1,18 @@
 -- The group passes where no record offends (locales-pass), and is refused at the first that does (locales-in-order).
-use Prim.Native.Nat.{ℕ, _+_, _≤_, _<_}
+use Prim.Native.Nat.{ℕ}
 use mathlib.Core.Path.{_≡_, refl, sym}
 use mathlib.Core.Logic.{_↔_}
-use mathlib.Core.List.{List}
 use mathlib.Core.Bool.{Bool, true, false, not, _||_}
 use lib.Dec.{eqb, leb}
 use native.Mathlib.Omega.{arith}
 use borrow.Author.Tests.{eqb-true, eqb-false, leb-true, leb-false}
-use Rattle.format.specs.declared.section.Section.{Section}
 use Rattle.format.specs.declared.records.IndexRecord.{IndexRecord}
-use Rattle.format.specs.declared.verdict.Verdict.{Verdict}
 use Rattle.format.specs.declared.verdict.Verdict.the-variants.{Pass, Fail}
 use Rattle.format.specs.Verdicts.{check}
 use Rattle.format.proofs.FirstLaws.{pass-not-fail, run-passes, run-fails}
 use Rattle.entries.specs.Entries.{recordAt}
-use Rattle.locales.specs.Locales.{isWithin, localeCheck}
-use Rattle.locales.specs.Order.{Offends, FirstOffends, LocalesPass, LocalesInOrder}
+use Rattle.locales.specs.Locales.{localeCheck}
+use Rattle.locales.specs.Order.{Offends, LocalesPass, LocalesInOrder}
 
 module _ (most : ℕ) (e : IndexRecord) where
   record-passes : (localeCheck most e ≡ Pass) ↔ (Offends most e → ⊥)

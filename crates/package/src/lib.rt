@@ -1,7 +1,6 @@
 // A whole package: checks 2 to 4, and 2 to 13 in order.
 ghost use mathlib.Core.Path.{_≡_};
-ghost use Prim.Native.Nat.{ℕ, _+_, _≤_};
-ghost use lib.ListN.{length};
+ghost use Prim.Native.Nat.{_+_, _≤_};
 ghost use Rattle.format.specs.Sizes.{packageLimit};
 ghost use Rattle.format.specs.Places.{sectionEnd};
 ghost use Rattle.package.specs.Lead.{leadCheck};

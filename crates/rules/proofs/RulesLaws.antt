@@ -1,7 +1,7 @@
 -- Checks 14 to 18 ask only for tags that have a slot (rules-slots), so they find in the gathered tables what they find in the
 -- indexes (rules-gathered).
 use Prim.Native.Nat.{ℕ}
-use mathlib.Core.Path.{_≡_, refl, sym, ap, _∙_}
+use mathlib.Core.Path.{_≡_, refl, _∙_}
 use mathlib.Core.List.{List}
 use mathlib.Core.Bool.{Bool}
 use Rattle.format.specs.declared.section.Section.{Section}

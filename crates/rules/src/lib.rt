@@ -1,6 +1,6 @@
 // The size tag: check 16, and 14 to 18 in order.
 ghost use mathlib.Core.Path.{_≡_};
-ghost use Prim.Native.Nat.{ℕ, _-_};
+ghost use Prim.Native.Nat.{_-_};
 ghost use Rattle.catalogue.specs.Catalogue.{inEdition};
 ghost use Rattle.tags.specs.Tables.{shownBy};
 ghost use Rattle.rules.specs.Rules.{sizeTagCheck, rulesOver, rulesCheck};

@@ -1,7 +1,6 @@
 // One header structure: checks 5 to 8, and 5 to 13 in order.
 ghost use mathlib.Core.Path.{_≡_};
-ghost use Prim.Native.Nat.{ℕ, _+_, _≤_, _<_};
-ghost use lib.ListN.{length};
+ghost use Prim.Native.Nat.{_+_, _<_};
 ghost use Rattle.format.specs.Places.{storePlace};
 ghost use Rattle.structure.specs.Structure.{headerCheck, recordsCheck};
 ghost use Rattle.structure.specs.Checked.{structureChecked};
