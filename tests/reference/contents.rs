@@ -1,6 +1,6 @@
 //! Groups (check 17) and texts (check 18), sentence by sentence.
 
-use super::{check, Checked, Opened, Structure, TRANSLATED_STRING};
+use super::{check, Checked, Opened, Record, Structure, TRANSLATED_STRING};
 
 impl Structure<'_> {
     fn has(&self, tag: u32) -> bool {
@@ -86,12 +86,9 @@ fn check_led(header: &Structure, leader: u32, others: [u32; 2]) -> Checked<()> {
 /// No more strings than tag 100 has locales; the first in index order that has more.
 fn check_locales(header: &Structure) -> Checked<()> {
     let locales = header.count(100);
-    for record in header
-        .records()
-        .filter(|record| record.ty == TRANSLATED_STRING)
-    {
-        let right = Some(record.count) <= locales;
-        check(17, right, record.tag as usize)?;
+    let translated = |record: &Record| record.ty == TRANSLATED_STRING;
+    for record in header.records().filter(translated) {
+        check(17, Some(record.count) <= locales, record.tag as usize)?;
     }
     Ok(())
 }
