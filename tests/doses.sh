@@ -30,7 +30,8 @@ gives "$data/check03_empty" 'refused 3 at 0'
 gives tests/data/house-one-region.rpm 'edition 2' '27 1250' 'total 1250'
 gives tests/data/house-make-64.rpm 'edition 2' '27 1250' 'total 1250'
 gives tests/data/rb-one.rpm 'refused 14 at 20001'
-gives tests/data/rb-i18n.rpm 'refused 10 at 4600'
+gives tests/data/rb-i18n.rpm 'refused 14 at 20001'
+gives tests/data/house-i18n.rpm 'edition 2' '27 1250' 'total 1250'
 
 # 585 doses of 1250 mg
 lines=('edition 2')

@@ -163,7 +163,11 @@ fn packages_of_other_writers() {
         data!("rb-signed-rsa"),
         data!("rb-legacy-nodirtokens-kinds"),
     ];
-    let houses: [&[u8]; 2] = [data!("house-one-region"), data!("house-make-64")];
+    let houses: [&[u8]; 3] = [
+        data!("house-one-region"),
+        data!("house-i18n"),
+        data!("house-make-64"),
+    ];
     for edition in [1, 2] {
         for package in no_book {
             assert_eq!(doses(edition, package), refused(14, 20001));
