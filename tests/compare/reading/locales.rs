@@ -189,7 +189,6 @@ fn no_strings(desk: &mut Desk, random: &mut Random) {
     for structure in [SIGNATURE, HEADER] {
         for tag in NO_LINE.into_iter().chain(TRANSLATED) {
             let mut content = with_locales(random, 2);
-            // The signature's 1004 and 1005 have lines.
             let empty = Item {
                 count: 0,
                 ..item(random, tag, 9, 1)
