@@ -10,8 +10,8 @@ pub fn size_of(ty: u32) -> Option<usize> {
     }
 }
 
-/// Whether entries of a type hold one string, never several: those of type 9 in the
-/// signature (0) only.
+/// Whether an entry of that type has one string and never several: type 6, and type 9 in
+/// the signature (0).
 pub fn is_single(structure: usize, ty: u32) -> bool {
     ty == 6 || (ty == 9 && structure == 0)
 }
