@@ -335,7 +335,9 @@ fn change_files(header: &mut Structure, random: &mut Random) {
 
 /// Another number of locales, and strings for some of them, or for one more.
 fn change_locales(header: &mut Structure, random: &mut Random) {
-    let locales = 1 + random.below(5) as u32;
+    // Sometimes 256 more: the low bits are those of a small number.
+    let many = random.pick(&[0, 0, 0, 0, 0, 0, 0, 256]);
+    let locales = 1 + random.below(5) as u32 + many * random.below(2) as u32;
     let mut texts = |tag, ty, count, random: &mut Random| {
         let data = any_data(random, tag, ty, count);
         put(header, tag, ty, count, &data);
@@ -346,7 +348,7 @@ fn change_locales(header: &mut Structure, random: &mut Random) {
     let other = random.pick(&[99, 5000, 20_003, u32::MAX]);
     for tag in [1004, 1005, 1016, other] {
         let some = 1 + random.below(locales as usize) as u32;
-        let count = random.pick(&[some, some, locales, locales + 1]);
+        let count = random.pick(&[some, some, locales, locales + 1, some + many]);
         if random.one_in(2) {
             texts(tag, 9, count, random);
         }

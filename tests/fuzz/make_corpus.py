@@ -132,6 +132,7 @@ SEEDS = {
     'accepted_both_far_entry': both(
         short(right(DOSE, header={30001: (BIN, bytes(60000)), 30002: (INT8, [0])}), tag=30002, ty=INT8), '0@1'),
     'accepted_both_locales': both(ask(right(DOSE, header=LOCALES), tag=1004, ty=I18N, element=2), '0@1'),
+    'accepted_both_256_locales': both(right(DOSE, header={100: (STRINGS, [b''] * 256), 1005: TWO}), '0@1'),
     'accepted_both_signature_text': both(right(DOSE, signature={30006: (I18N, b'one')}), '0@1'),
     'accepted_both_long_name': both(put(10, b'x' * 65 + b'\0', RIGHT), '0@1'),
     'accepted_edition_2_tolerance': (right(TOLERATED), '20@0', '0@1'),
@@ -175,6 +176,8 @@ SEEDS = {
     'check17_locales': wrong_entry('17@1016', 1016, *TWO),
     'check17_locales_other_tag': wrong_header('17@30006', LOCALES | {30006: (I18N, [b''] * 4), 30007: (STRINGS, [b''] * 5)}),
     'check17_locales_in_index_order': both(swapped(right(DOSE, header={1005: TWO, 30006: TWO}), 1005, 30006), '17@30006'),
+    'check17_locales_256_more': wrong_entry('17@1004', 1004, I18N, [b''] * 257),
+    'check17_locales_40000': both(short(right(DOSE, header={30006: (I18N, [b''] * 40000)})), '17@30006'),
     'check17_leader_before_locales': wrong_header('17@1080', {1004: TWO, 1081: (STRINGS, [b'we'])}),
     'check17_locales_before_system': wrong_header('17@1004', {1004: TWO, 1021: (STRING, b'linuxx')}),
     'check17_weight_in_edition_1': (right(DOSE, header={20002: TWO}), '17@20002', '15@20002'),
@@ -190,6 +193,7 @@ SEEDS = {
     'check23_sum': (right(DOSE, batch=1249), '0@1', '23@20002'),
     'check24_no_room': both(ask(right(DOSE + DOSE), room=15), '0@2'),
     'check25_other_type': both(ask(RIGHT, tag=1028, ty=INT16), '0@1'),
+    'check25_translated': both(ask(right(DOSE, header=LOCALES), tag=1004, ty=STRINGS), '0@1'),
     'check26_locale': both(ask(right(DOSE, header=LOCALES), tag=1005, ty=I18N, element=2), '0@1'),
     'check26_element': both(ask(RIGHT, tag=1028, ty=INT32, element=1), '0@1'),
 }
