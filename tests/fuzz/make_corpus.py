@@ -177,7 +177,7 @@ SEEDS = {
     'check17_locales_other_tag': wrong_header('17@30006', LOCALES | {30006: (I18N, [b''] * 4), 30007: (STRINGS, [b''] * 5)}),
     'check17_locales_in_index_order': both(swapped(right(DOSE, header={1005: TWO, 30006: TWO}), 1005, 30006), '17@30006'),
     'check17_locales_256_more': wrong_entry('17@1004', 1004, I18N, [b''] * 257),
-    'check17_locales_40000': both(short(right(DOSE, header={30006: (I18N, [b''] * 40000)})), '17@30006'),
+    'check17_locales_32769': both(short(right(DOSE, header={30006: (I18N, [b''] * 32769)})), '17@30006'),
     'check17_leader_before_locales': wrong_header('17@1080', {1004: TWO, 1081: (STRINGS, [b'we'])}),
     'check17_locales_before_system': wrong_header('17@1004', {1004: TWO, 1021: (STRING, b'linuxx')}),
     'check17_weight_in_edition_1': (right(DOSE, header={20002: TWO}), '17@20002', '15@20002'),
