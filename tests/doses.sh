@@ -34,6 +34,7 @@ gives tests/data/rb-i18n.rpm 'refused 14 at 20001'
 gives "$data/locales_right" 'edition 2' '27 1250' 'total 1250'
 gives "$data/check17_locales" 'refused 17 at 1004'
 gives "$data/check10_signature_translated" 'refused 10 at 128'
+gives tests/data/house-i18n.rpm 'edition 2' '27 1250' 'total 1250'
 
 # 585 doses of 1250 mg
 lines=('edition 2')

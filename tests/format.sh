@@ -51,7 +51,7 @@ awk -F ' *[|] *' '
         if (table <= 7)
             print "signature", $2, number[$3], $2 ~ /^10(02|05|11|12)$/ ? "any" : count, $2 == 100 ? "optional" : status, $1
         if (table == 4 || table > 7)
-            print "header", $2, number[$3], $2 ~ /^(1047|1114)$/ ? "any" : count, status, $1
+            print "header", $2, number[$3], $2 ~ /^(1004|1005|1016|1047|1114)$/ ? "any" : count, status, $1
     }' tests/reference/tables.txt | sort > "$work/printed"
 sort "$work/page" | diff - "$work/printed" || fail "$page: not the printed tables"
 

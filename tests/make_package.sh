@@ -52,6 +52,15 @@ make kind.rpm "20 at 0: " "20 at 0: " --book 96 --weight 0
 make dose.rpm "0 at 2: 27 1250 999 5000000" "0 at 2: 27 1250 999 5000000" --dose 27:1250 --dose 999:5000000
 make page.rpm "0 at 1: 27 1250" "0 at 1: 27 1250" --book "02 0007" --dose 27:1250
 cmp "$out/page.rpm" "$out/example.rpm"
+make locales.rpm "0 at 1: 27 1250" "0 at 1: 27 1250" --dose 27:1250 --entry 100:strings:C,de,pt_BR \
+    --entry 1004:i18ns:Glazes,Glasuren,Esmaltes --entry 1005:i18ns:One,Eins --entry 1016:i18n:Books,etc
+if command -v rpm > /dev/null; then
+    said=$(LC_ALL=C.UTF-8 LANGUAGE=de rpm -qp --qf '%{summary} %{description} %{group}' "$out/locales.rpm")
+    [ "$said" = "Glasuren Eins Books,etc" ] || { echo "make_package: rpm reads $said" >&2; exit 1; }
+fi
+make translations.rpm "17 at 1005: " "17 at 1005: " --dose 27:1250 --entry 1005:i18ns:One,Eins --entry 30000:i18ns:a,b
+# The seventh record of the signature
+ours signature.rpm "10 at 208: " "10 at 208: " --dose 27:1250 --entry 100:strings:C,de --signature-entry 30000:i18ns:a,b
 make dose_first.rpm "20 at 7: " "0 at 2: 1 100 27 1250" --dose 1:100 --book "98 001B 000004E2 0005"
 # rpm takes a tag of 2^32 - 1 for -1
 ours largest.rpm "0 at 0: " "23 at 20002: " --book 00 --weight 4294967295 --entry 4294967295:int16:65535 \

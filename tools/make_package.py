@@ -25,6 +25,7 @@ EXAMPLES = """examples:
   %(prog)s --book "02 0007" --dose 1:100 --dose 2:200 two.rpm
       page 7, then two doses, 300 mg
   %(prog)s --book 00 --name blank --file /srv/blank --require "glass >= 1.2" blank.rpm
+  %(prog)s --dose 27:1250 --entry 100:strings:C,de --entry 1004:i18ns:Glazes,Glasuren two_locales.rpm
   %(prog)s --book 00 --weight 5 wrong.rpm
       refused 23 at 20002
   %(prog)s --book 00 --entry 1021:string:hurd --without 1126 wrong.rpm
@@ -33,7 +34,7 @@ EXAMPLES = """examples:
 
 TYPES = {
     'char': CHAR, 'int8': INT8, 'int16': INT16, 'int32': INT32,
-    'string': STRING, 'bin': BIN, 'strings': STRINGS, 'i18n': I18N,
+    'string': STRING, 'bin': BIN, 'strings': STRINGS, 'i18n': I18N, 'i18ns': I18N,
 }
 # How many bits a number of a type has.
 BITS = {CHAR: 8, INT8: 8, INT16: 16, INT32: 32}
@@ -84,9 +85,9 @@ def entry(text):
     ty = TYPES.get(name)
     if ty == BIN:
         value = bytes.fromhex(value)
-    elif ty in (STRING, I18N):
+    elif name in ('string', 'i18n'):
         value = text_bytes(value)
-    elif ty == STRINGS:
+    elif name in ('strings', 'i18ns'):
         value = [text_bytes(word) for word in value.split(',')]
     elif ty:
         value = [number(word, BITS[ty]) for word in value.split(',')]
@@ -131,7 +132,8 @@ def arguments():
                         help='a package that this one requires; may be repeated')
     parser.add_argument('--entry', metavar='TAG:TYPE:VALUE', type=entry, action='append', default=[],
                         help='a header entry to add, or to put in the place of the one of that tag. TYPE is one of '
-                             + ', '.join(TYPES) + '; numbers and strings are separated by commas, bin is hex')
+                             + ', '.join(TYPES) + '; numbers, strings and i18ns (a text for each locale of tag 100) '
+                             'are separated by commas, bin is hex')
     parser.add_argument('--signature-entry', metavar='TAG:TYPE:VALUE', type=entry, action='append', default=[],
                         help='the same in the signature')
     parser.add_argument('--without', metavar='TAG', type=int, action='append', default=[],

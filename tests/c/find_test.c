@@ -156,6 +156,48 @@ static void structures(void)
     wrong("tag of the first record", THIRD, 1000, 13, THIRD);
 }
 
+/* Strings of type 9 go by locale number; in the signature there is one. */
+static void locales(void)
+{
+    static const uint32_t number[][4] = {{1000, 4, 0, 1}};
+    static const char store[] = "Glass\0Glas\0\0vidro";
+    static const uint32_t starts[] = {0, 6, 11, 12};
+    for (uint32_t count = 0; count <= 5; count++) {
+        uint32_t records[][4] = {{1004, 9, 0, count}};
+        begin();
+        put_structure((const uint32_t(*)[4])records, 1, store, sizeof store);
+        if (count == 0 || count == 5) {
+            refused("no such count", count == 0 ? 10 : 12, H + 16);
+            continue;
+        }
+        find("whole entry", 1, 1004, 9, 0, H + 32);
+        find("no string array", 1, 1004, 8, 25, 0);
+        for (uint32_t n = 0; n < count; n++)
+            element("locale", 1, 1004, 9, n, 0, H + 32 + starts[n]);
+        element("no such locale", 1, 1004, 9, count, 26, 0);
+        element("next one", 1, 1004, 9, count + 1, 26, 0);
+        element("256 more", 1, 1004, 9, 256, 26, 0);
+        element("65,536 more", 1, 1004, 9, 65536, 26, 0);
+        element("largest number", 1, 1004, 9, UINT32_MAX, 26, 0);
+        package[H + 32 + sizeof store - 1] = 'x';
+        if (count == 4)
+            refused("last zero byte lost", 12, H + 16);
+
+        begin();
+        length = 96;
+        put_structure((const uint32_t(*)[4])records, 1, store, sizeof store);
+        length = (length + 7) / 8 * 8;
+        uint32_t h = (uint32_t)length;
+        put_structure(number, 1, "\0\0\4\342", 4);
+        if (count == 1) {
+            element("locale of the signature", 0, 1004, 9, 0, 0, 128);
+            element("no second one", 0, 1004, 9, 1, 26, 0);
+            find("header behind it", 1, 1000, 4, 0, h + 32);
+        } else
+            refused("translations in the signature", 10, 112);
+    }
+}
+
 /* Document 01's samples: a store of 8 bytes. */
 static void store_of_8(void)
 {
@@ -252,7 +294,13 @@ static void other_writers(const char *folder)
     refused("cut", 8, 348);
 
     read_package(folder, "rb-i18n.rpm");
-    refused("four translations", 10, 4600);
+    shows(1, 1004, 9, 0, 5399, "Glaze notes", 12);
+    shows(1, 1004, 9, 1, 5411, "Glasurnotizen", 14);
+    shows(1, 1004, 9, 3, 5439, "Notas de esmalte", 17);
+    shows(1, 1016, 9, 1, 5555, "Anwendungen/Glasur", 19);
+    element("no fifth locale", 1, 1004, 9, 4, 26, 0);
+    element("no third one", 1, 1016, 9, 2, 26, 0);
+    find("no string array", 1, 1016, 8, 25, 0);
 }
 
 int main(int count, char **words)
@@ -265,6 +313,7 @@ int main(int count, char **words)
     lengths();
     lead_fields();
     structures();
+    locales();
     store_of_8();
     document_002();
     many_records();

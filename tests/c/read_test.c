@@ -362,6 +362,73 @@ static void groups(void)
     refused_twice("missing goes before differing", 17, 1082);
 }
 
+/* Translated strings, one for each locale of tag 100 at most. */
+static void locales(void)
+{
+    static const uint32_t tags[] = {1004, 1005, 1016, 99, 1012, 30000, UINT32_MAX};
+    for (size_t i = 0; i < sizeof tags / sizeof tags[0]; i++) {
+        with(HEADER, (struct entry){tags[i], 9, 2, "a\0b", 4});
+        refused_twice("two strings, one locale", 17, tags[i]);
+        set(HEADER, (struct entry)STRINGS(100, 2, "C\0de"));
+        make();
+        accepted("two locales", 1, 1, cobalt);
+        accepted("two locales", 2, 1, cobalt);
+        set(HEADER, (struct entry){tags[i], 9, 3, "a\0b\0", 5});
+        make();
+        refused_twice("three strings, two locales", 17, tags[i]);
+        set(HEADER, (struct entry)STRINGS(100, 3, "C\0de\0fr"));
+        set(HEADER, (struct entry){tags[i], 9, 2, "a\0b", 4});
+        make();
+        accepted("fewer strings than locales", 2, 1, cobalt);
+        drop(HEADER, 100);
+        make();
+        refused_twice("no locales", 14, 100);
+        set(HEADER, (struct entry){100, 9, 3, "C\0de\0fr", 8});
+        make();
+        refused_twice("locales of type 9", 15, 100);
+    }
+
+    /* The first in index order; what is set goes last. */
+    with(HEADER, (struct entry){30000, 9, 2, "a\0b", 4});
+    set(HEADER, (struct entry){5, 9, 2, "a\0b", 4});
+    make();
+    refused_twice("the higher tag first", 17, 30000);
+    set(HEADER, (struct entry){30000, 9, 3, "a\0b\0", 5});
+    make();
+    refused_twice("the lower tag first", 17, 5);
+    set(HEADER, (struct entry)STRINGS(1081, 1, "me"));
+    make();
+    refused_twice("the other groups first", 17, 1080);
+    with(HEADER, (struct entry){1004, 9, 2, "a\0b", 4});
+    set(HEADER, (struct entry)STRING(1021, "Linux"));
+    make();
+    refused_twice("before the texts", 17, 1004);
+    with(HEADER, (struct entry)STRINGS(1012, 3, "a\0b\0c"));
+    accepted("a string array has no locales", 2, 1, cobalt);
+
+    /* In the signature there is one string. */
+    with(SIGNATURE, (struct entry){30000, 9, 1, "a", 2});
+    accepted("one string in the signature", 1, 1, cobalt);
+    accepted("one string in the signature", 2, 1, cobalt);
+    with(SIGNATURE, (struct entry){30000, 9, 2, "a\0b", 4});
+    set(HEADER, (struct entry)STRINGS(100, 2, "C\0de"));
+    make();
+    refused_twice("two strings in the signature", 10, 112 + 2 * 16);
+    for (int structure = SIGNATURE; structure <= HEADER; structure++) {
+        with(structure, (struct entry){30000, 9, 0, "", 1});
+        uint32_t last = 16 * (uint32_t)(counts[structure] - 1);
+        refused_twice("no string", 10, (structure == HEADER ? h + 16 : 112) + last);
+    }
+
+    /* Edition 1 has no line for 20002. */
+    with(HEADER, (struct entry){20002, 9, 2, "a\0b", 4});
+    refused("two strings for the weight", 1, 17, 20002);
+    refused("two strings for the weight", 2, 15, 20002);
+    with(HEADER, (struct entry){20002, 9, 1, "a", 2});
+    accepted("one string for the weight", 1, 1, cobalt);
+    refused("one string for the weight", 2, 15, 20002);
+}
+
 static void texts(void)
 {
     with(HEADER, (struct entry)STRING(1021, "Linux"));
@@ -383,15 +450,15 @@ static void texts(void)
 static void other_writers(const char *folder)
 {
     static const char *const without_book[] = {"rb-one.rpm", "rb-deps.rpm",
-                                               "rb-scripts.rpm", "rb-signed-rsa.rpm",
+                                               "rb-scripts.rpm", "rb-i18n.rpm",
+                                               "rb-signed-rsa.rpm",
                                                "rb-legacy-nodirtokens-kinds.rpm"};
-    static const char *const houses[] = {"house-one-region.rpm", "house-make-64.rpm"};
+    static const char *const houses[] = {"house-one-region.rpm", "house-i18n.rpm",
+                                         "house-make-64.rpm"};
     for (size_t i = 0; i < sizeof without_book / sizeof without_book[0]; i++) {
         read_package(folder, without_book[i]);
         refused_twice(without_book[i], 14, 20001);
     }
-    read_package(folder, "rb-i18n.rpm");
-    refused_twice("rb-i18n.rpm", 10, 4600);
     for (size_t i = 0; i < sizeof houses / sizeof houses[0]; i++) {
         read_package(folder, houses[i]);
         accepted(houses[i], 1, 1, cobalt);
@@ -414,6 +481,7 @@ int main(int count, char **words)
     lines();
     size();
     groups();
+    locales();
     texts();
     other_writers(words[1]);
     printf(PROGRAM ": %d answers right\n", asked);

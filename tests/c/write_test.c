@@ -232,7 +232,7 @@ static void wrong_entries(void)
     wrong_entry("count 0", 7, 0, "", 0);
     wrong_entry("count 0 of strings", 8, 0, "", 0);
     wrong_entry("two of type 6", 6, 2, "a\0b", 4);
-    wrong_entry("two of type 9", 9, 2, "a\0b", 4);
+    wrong_entry("none of type 9", 9, 0, "", 0);
     wrong_entry("a byte too few", 7, 3, "ab", 2);
     wrong_entry("a byte too many", 7, 1, "ab", 2);
     wrong_entry("half an int16", 3, 2, "abc", 3);
@@ -245,6 +245,39 @@ static void wrong_entries(void)
     wrong_entry("a string too few", 8, 3, "a\0b", 4);
     wrong_entry("a string too many", 8, 1, "a\0b", 4);
     wrong_entry("most strings", 8, UINT32_MAX, "\0\0", 3);
+}
+
+/* Several strings of type 9 are right in the header only. */
+static void translated(void)
+{
+    static const uint32_t own[][4] = {{1000, 4, 0, 1}};
+    static const uint32_t counts[] = {1, 2, 5};
+    static const char strings[] = "\0Glas\0glass\0\0vidro";
+    static const size_t sizes[] = {1, 6, 19};
+    for (size_t i = 0; i < 3; i++) {
+        struct entry entry = {1004, 9, counts[i], strings, sizes[i]};
+        uint32_t records[][4] = {{1004, 9, 0, counts[i]}};
+        smallest();
+        lists[HEADER].entries_len = lists[HEADER].data_len = 0;
+        add(HEADER, entry);
+        put_lead();
+        memcpy(package + 10, "b\0\0\0", 4);
+        put_structure(own, 1, "\0\0\0", 4);
+        length = 136;
+        put_structure((const uint32_t(*)[4])records, 1, strings, sizes[i]);
+        put(128, (uint32_t)length - 136);
+        written("translated string");
+
+        smallest();
+        add(SIGNATURE, entry);
+        if (counts[i] == 1)
+            expect("one in the signature", call(package, 65536), 0, 185);
+        else
+            refused("translations in the signature");
+    }
+    wrong_entry("a translation too few", 9, 3, "a\0b", 4);
+    wrong_entry("a translation too many", 9, 1, "a\0b", 4);
+    wrong_entry("last translation without its zero byte", 9, 2, "a\0b", 3);
 }
 
 static void wrong_tags(void)
@@ -373,6 +406,7 @@ int main(int count, char **words)
     alignment();
     whole_book(words[1]);
     wrong_entries();
+    translated();
     wrong_tags();
     wrong_names();
     ranges();

@@ -1,6 +1,6 @@
 //! One damage for each check and place, with the answer it must get.
 
-use crate::maker::{size_of, Package, Structure, S};
+use crate::maker::{is_single, size_of, Package, Structure, S};
 use crate::random::Random;
 
 pub struct Damage {
@@ -66,10 +66,10 @@ pub fn all(package: &Package, random: &mut Random) -> Vec<Damage> {
     let bytes = package.bytes();
     let mut list = List(Vec::new());
     lead(&mut list, &bytes, random);
-    for (start, structure) in package.structures() {
+    for (number, (start, structure)) in package.structures().into_iter().enumerate() {
         header_record(&mut list, &bytes, start, structure, random);
         for position in 0..structure.records.len() {
-            index_record(&mut list, start, structure, position, random);
+            index_record(&mut list, number, start, structure, position, random);
         }
     }
     list.0
@@ -135,6 +135,7 @@ fn header_record(
 
 fn index_record(
     list: &mut List,
+    number: usize,
     start: usize,
     structure: &Structure,
     position: usize,
@@ -142,7 +143,7 @@ fn index_record(
 ) {
     let place = start + 16 + 16 * position;
     let (tag_at, type_at, offset_at, count_at) = (place, place + 4, place + 8, place + 12);
-    let [_, ty, offset, _] = structure.records[position];
+    let [_, ty, offset, count] = structure.records[position];
     let store = structure.store.len() as u32;
 
     // 256 and 65,536 more: the low bits still look lawful.
@@ -160,9 +161,14 @@ fn index_record(
     list.numbers("type", 9, place, type_at, &wrong);
 
     list.numbers("count 0", 10, place, count_at, &[0]);
-    if matches!(ty, 6 | 9) {
+    if is_single(number, ty) {
         for count in [2, 257, 65_537, (1 << 31) + 1, u32::MAX] {
             list.words("count not 1", 10, place, type_at, &[ty, offset, count]);
+        }
+    } else if size_of(ty).is_none() && count > 1 {
+        for single in [6, 9].into_iter().filter(|&ty| is_single(number, ty)) {
+            let new = [single, offset, count];
+            list.words("type of one string", 10, place, type_at, &new);
         }
     }
 
@@ -197,7 +203,7 @@ fn index_record(
         None => {
             let wrong = [store, store + 1, 1 << 31, u32::MAX];
             list.numbers("string past the store", 12, place, offset_at, &wrong);
-            if ty == 8 {
+            if !is_single(number, ty) {
                 let from = &structure.store[offset as usize..];
                 let zeros = from.iter().filter(|&&byte| byte == 0).count() as u32;
                 let wrong = [zeros + 1, 65_537, 1 << 31, u32::MAX];

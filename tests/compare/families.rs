@@ -1,15 +1,15 @@
 //! The cases that are made here, family by family.
 
-use crate::bench::{Answer, Bench};
+use crate::bench::{Answer, Bench, Question};
 use crate::damage;
 use crate::fence::ROOM;
-use crate::maker::{lead, size_of, Entry, Package, Structure, S};
+use crate::maker::{is_single, lead, size_of, Entry, Package, Structure, S};
 use crate::questions::*;
 use crate::random::Random;
 use crate::shapes::{shape, Known, Plan, Shape, LAWFUL};
 
 /// All families with their names, in the order in which they run.
-pub const ALL: [(&str, fn(&mut Bench, &mut Random)); 10] = [
+pub const ALL: [(&str, fn(&mut Bench, &mut Random)); 11] = [
     ("right packages", right_packages),
     ("many records", many_records),
     ("sizes", sizes),
@@ -20,6 +20,7 @@ pub const ALL: [(&str, fn(&mut Bench, &mut Random)); 10] = [
     ("extreme fields", extreme_fields),
     ("random records", soup),
     ("random bytes", noise),
+    ("translated strings", translated),
 ];
 
 fn small(random: &mut Random) -> Shape {
@@ -121,8 +122,8 @@ fn one_large_entry(ty: u32, size: usize) -> (Vec<u8>, Known) {
     let room = size - place;
     let each = match (ty, size_of(ty)) {
         (_, Some(each)) => each,
-        (8, None) => 3,
-        (_, None) => room,
+        (6, None) => room,
+        (_, None) => 3,
     };
     let mut element = vec![b'x'; each];
     if size_of(ty).is_none() {
@@ -267,10 +268,10 @@ fn extreme_fields(bench: &mut Bench, random: &mut Random) {
 fn soup(bench: &mut Bench, random: &mut Random) {
     for _ in 0..30_000 {
         let signature = match random.below(3) {
-            0 => random_structure(random),
+            0 => random_structure(random, 0),
             _ => Structure::of(&[Entry::new(1000, 4, &[&[0; 4]])]),
         };
-        let package = Package::of(signature, random_structure(random));
+        let package = Package::of(signature, random_structure(random, 1));
         let bytes = package.bytes();
         bench.package(&bytes);
         for (number, (start, structure)) in package.structures().into_iter().enumerate() {
@@ -280,7 +281,7 @@ fn soup(bench: &mut Bench, random: &mut Random) {
     }
 }
 
-fn random_structure(random: &mut Random) -> Structure {
+fn random_structure(random: &mut Random, number: usize) -> Structure {
     let size = random.below(20);
     let store = (0..size).map(|_| random.pick(&[0, 0, b'a'])).collect();
     let record = |random: &mut Random| {
@@ -288,9 +289,9 @@ fn random_structure(random: &mut Random) -> Structure {
             0 => random.below(12) as u32,
             _ => random.pick(&LAWFUL),
         };
-        let count = match ty {
-            6 | 9 => 1,
-            _ => 1 + random.below(3) as u32,
+        let count = match is_single(number, ty) && !random.one_in(20) {
+            true => 1,
+            false => 1 + random.below(3) as u32,
         };
         let align = size_of(ty).unwrap_or(1);
         let mut offset = random.below(size + 1) / align * align;
@@ -302,6 +303,95 @@ fn random_structure(random: &mut Random) -> Structure {
     };
     let records = (0..1 + random.below(4)).map(|_| record(random)).collect();
     Structure { records, store }
+}
+
+/// Strings of type 9: 1 to 5, one for each locale number, in the header; one in the
+/// signature.
+fn translated(bench: &mut Bench, random: &mut Random) {
+    for count in 1..=5 {
+        for structure in [0, 1] {
+            for _ in 0..6 {
+                some_strings(bench, random, structure, count);
+            }
+        }
+    }
+    // A number that has the low bits of another.
+    for count in [256, 257, 300, 513] {
+        some_strings(bench, random, 1, count);
+    }
+}
+
+/// Strings of type 9 between two other entries.
+fn some_strings(bench: &mut Bench, random: &mut Random, structure: usize, count: usize) {
+    let texts: Vec<Vec<u8>> = (0..count)
+        .map(|n| [vec![b'x'; (n + random.below(3)) % 4], vec![0]].concat())
+        .collect();
+    let tag = random.pick(&[0, 7, 100, 1004, 1005, 1016, 5000, u32::MAX]);
+    let other = Structure::of(&[Entry::new(1000, 4, &[&[0; 4]])]);
+    let mut own = other.clone();
+    let before = vec![b"ab\0".to_vec(); 2];
+    // No zero byte behind them.
+    let behind = vec![vec![1]; 3];
+    for (tag, ty, elements) in [(8, 8, before), (tag, 9, texts), (9, 7, behind)] {
+        own.put(&Entry { tag, ty, elements }, 0);
+    }
+    let [_, _, offset, _] = own.records[2];
+    let mut package = Package::of(other.clone(), other);
+    match structure {
+        0 => package.signature = own,
+        _ => package.header = own,
+    }
+    let (start, own) = package.structures()[structure];
+    let record = start + 16 + 2 * 16;
+    let store = start + 16 + 16 * own.records.len();
+    let first = store + offset as usize;
+    let bytes = package.bytes();
+    let question = |element| Question {
+        structure: structure as u32,
+        tag,
+        ty: 9,
+        element: Some(element),
+    };
+    bench.package(&bytes);
+    if is_single(structure, 9) && count > 1 {
+        bench.ask_both(question(0), Some(Answer::new(10, record)));
+        return;
+    }
+
+    let mut elements = Vec::new();
+    let mut place = first;
+    for element in 0..count {
+        bench.ask(question(element as u32), Some(Answer::new(0, place)));
+        elements.push(place);
+        let zero = bytes[place..].iter().position(|&byte| byte == 0);
+        place += zero.unwrap() + 1;
+    }
+    for element in EXTREMES.into_iter().filter(|&n| n >= count as u32) {
+        bench.ask(question(element), Some(Answer::new(26, 0)));
+    }
+    let known = Known {
+        structure: structure as u32,
+        tag,
+        ty: 9,
+        elements,
+    };
+    ask_entry(bench, random, &known);
+
+    let more = if is_single(structure, 9) { 10 } else { 12 };
+    for (count, number) in [(0, 10), (count as u32 + 1, more), (u32::MAX, more)] {
+        let mut bytes = bytes.clone();
+        bytes[record + 12..record + 16].copy_from_slice(&count.to_be_bytes());
+        bench.package(&bytes);
+        bench.ask_both(question(0), Some(Answer::new(number, record)));
+    }
+    // A zero byte lost, the last one or another: there are fewer strings.
+    for element in [count - 1, count / 2, 0] {
+        let end = known.elements.get(element + 1).copied().unwrap_or(place);
+        let mut bytes = bytes.clone();
+        bytes[end - 1] = b'x';
+        bench.package(&bytes);
+        bench.ask_both(question(0), Some(Answer::new(12, record)));
+    }
 }
 
 /// Random bytes, alone or behind a right beginning; right packages with some bytes changed.

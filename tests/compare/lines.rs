@@ -1,5 +1,5 @@
-//! The catalogue by document 000's tables as printed (tables.txt), under document
-//! 01's exceptions.
+//! The catalogue by document 000's tables as printed (tables.txt), under the
+//! exceptions of documents 01 and 02.
 
 use std::sync::LazyLock;
 
@@ -22,7 +22,7 @@ pub static SIGNATURE: LazyLock<Vec<Line>> = LazyLock::new(|| {
 
 pub static HEADER: LazyLock<Vec<Line>> = LazyLock::new(|| {
     let tables = ["1-4", "1-8", "1-9", "1-10", "1-11", "1-14"];
-    let mut lines = printed(&tables, &[1047, 1114]);
+    let mut lines = printed(&tables, &[1004, 1005, 1016, 1047, 1114]);
     let house = |tag, ty, count| Line {
         tag,
         ty,

@@ -10,6 +10,12 @@ pub fn size_of(ty: u32) -> Option<usize> {
     }
 }
 
+/// Whether an entry of that type has one string and never several: type 6, and type 9 in
+/// the signature (0).
+pub fn is_single(structure: usize, ty: u32) -> bool {
+    ty == 6 || (ty == 9 && structure == 0)
+}
+
 /// An entry to put into a structure. Strings carry their zero byte.
 #[derive(Clone, Debug)]
 pub struct Entry {

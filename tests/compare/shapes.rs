@@ -1,6 +1,6 @@
 //! Right packages of many shapes, with what is known of their entries.
 
-use crate::maker::{lead, size_of, Entry, Package, Structure};
+use crate::maker::{is_single, lead, size_of, Entry, Package, Structure};
 use crate::random::Random;
 
 pub const LAWFUL: [u32; 8] = [1, 2, 3, 4, 6, 7, 8, 9];
@@ -40,8 +40,8 @@ impl Plan {
 type Placed = ([u32; 4], Vec<usize>);
 
 pub fn shape(random: &mut Random, plan: &Plan) -> Shape {
-    let (signature, in_signature) = structure(random, plan.records[0], plan.most_elements);
-    let (header, in_header) = structure(random, plan.records[1], plan.most_elements);
+    let (signature, in_signature) = structure(random, plan, 0);
+    let (header, in_header) = structure(random, plan, 1);
     let package = Package {
         lead: free_lead(random),
         signature,
@@ -74,16 +74,23 @@ pub fn free_lead(random: &mut Random) -> [u8; 96] {
     bytes
 }
 
-fn structure(random: &mut Random, records: usize, most: usize) -> (Structure, Vec<Placed>) {
+fn structure(random: &mut Random, plan: &Plan, number: usize) -> (Structure, Vec<Placed>) {
     let mut structure = Structure::default();
     let mut placed: Vec<Placed> = Vec::new();
-    for tag in tags(random, records) {
+    for tag in tags(random, plan.records[number]) {
         let shared = if random.one_in(4) {
-            shared(random, &structure.store, &placed, tag)
+            shared(random, &structure.store, &placed, tag, number)
         } else {
             None
         };
-        placed.push(shared.unwrap_or_else(|| fresh(random, &mut structure, tag, most)));
+        placed.push(shared.unwrap_or_else(|| {
+            let ty = random.pick(&LAWFUL);
+            let count = match is_single(number, ty) {
+                true => 1,
+                false => 1 + random.below(plan.most_elements),
+            };
+            fresh(random, &mut structure, tag, ty, count)
+        }));
     }
     let slack = random.below(4);
     structure.store.extend(random.bytes(slack));
@@ -109,12 +116,13 @@ fn string(random: &mut Random) -> Vec<u8> {
 }
 
 /// An entry with data of its own, some filler before it.
-fn fresh(random: &mut Random, structure: &mut Structure, tag: u32, most: usize) -> Placed {
-    let ty = random.pick(&LAWFUL);
-    let count = match ty {
-        6 | 9 => 1,
-        _ => 1 + random.below(most),
-    };
+fn fresh(
+    random: &mut Random,
+    structure: &mut Structure,
+    tag: u32,
+    ty: u32,
+    count: usize,
+) -> Placed {
     let element = |random: &mut Random| match size_of(ty) {
         Some(size) => random.bytes(size),
         None => string(random),
@@ -135,7 +143,13 @@ fn fresh(random: &mut Random, structure: &mut Structure, tag: u32, most: usize) 
 }
 
 /// An entry over bytes that another entry holds, if they suit.
-fn shared(random: &mut Random, store: &[u8], placed: &[Placed], tag: u32) -> Option<Placed> {
+fn shared(
+    random: &mut Random,
+    store: &[u8],
+    placed: &[Placed],
+    tag: u32,
+    number: usize,
+) -> Option<Placed> {
     if placed.is_empty() {
         return None;
     }
@@ -144,7 +158,14 @@ fn shared(random: &mut Random, store: &[u8], placed: &[Placed], tag: u32) -> Opt
     let first = offset as usize;
     match size_of(ty) {
         // The same strings, or the tail of the last one.
-        None if random.one_in(2) => Some(([tag, ty, offset, count], starts.clone())),
+        None if random.one_in(2) => {
+            let other = random.pick(&[6, 8, 9]);
+            let ty = match is_single(number, other) {
+                true if count > 1 => ty,
+                _ => other,
+            };
+            Some(([tag, ty, offset, count], starts.clone()))
+        }
         None => {
             let last = starts[starts.len() - 1];
             let length = store[last..].iter().position(|&byte| byte == 0)?;

@@ -94,23 +94,13 @@ def lines(path):
                 yield f"{start} {element} {parts[element].hex()}"
 
 
-def refused(path):
-    """Document 01 holds type 9 to count 1; rpm does not."""
-    return any(
-        kind == 9 and len(parts) != 1
-        for found in structures(path)
-        for _, kind, parts in found
-    )
-
-
 def main():
     folder = pathlib.Path(__file__).resolve().parent
     with open(folder / "expected.txt", "w", encoding="ascii") as out:
         print("# FILE STRUCTURE TAG TYPE ELEMENT HEX, by make_expected.py", file=out)
         for path in sorted(folder.glob("*.rpm")):
-            if not refused(path):
-                for line in lines(path):
-                    print(line, file=out)
+            for line in lines(path):
+                print(line, file=out)
 
 
 main()

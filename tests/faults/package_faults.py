@@ -14,6 +14,8 @@ STORE = (
 CHECK_8 = "        check(8, end <= package.len(), start + 12)?;\n"
 RECORDS = "        for (position, record) in structure.records().enumerate() {\n"
 CHECK_9 = "            check(9, elements(record.ty).is_some(), place)?;\n"
+ONE_STRING = "(STRING, _) | (TRANSLATED_STRING, Part::Signature) => self.count == 1"
+CHECK_26 = "    check(26, element < record.count, 0)?;\n"
 
 # Check ("package": no check's), what is wrong, the right text (found once), the wrong text.
 FAULTS = [
@@ -65,13 +67,21 @@ FAULTS = [
      RECORDS + "            let place = structure.record_place(position);\n" + CHECK_9
      + "        }\n" + RECORDS),
     (10, "count 0 allowed", "_ => self.count >= 1", "_ => true"),
-    (10, "type 9 of any count",
-     "STRING | TRANSLATED_STRING => self.count == 1", "STRING => self.count == 1"),
+    (10, "type 9 of any count in the signature", ONE_STRING, "(STRING, _) => self.count == 1"),
+    (10, "type 9 of two in the signature", ONE_STRING, ONE_STRING + " || (self.ty, self.count) == (9, 2)"),
+    (10, "type 9 held to 1 in the header",
+     ONE_STRING, "(STRING | TRANSLATED_STRING, _) => self.count == 1"),
+    (10, "type 9's rules exchanged", ONE_STRING, ONE_STRING.replace("Signature", "Header")),
+    (10, "type 9 of none in the header",
+     ONE_STRING, "(TRANSLATED_STRING, Part::Header) => true,\n            " + ONE_STRING),
+    (10, "single strings of none", ONE_STRING, ONE_STRING.replace("==", "<=")),
     (10, "type 6 of any count",
-     "STRING | TRANSLATED_STRING => self.count == 1",
-     "TRANSLATED_STRING => self.count == 1"),
-    (10, "type 8 held to 1",
-     "STRING | TRANSLATED_STRING => self.count == 1", "6 | 8 | 9 => self.count == 1"),
+     ONE_STRING, "(TRANSLATED_STRING, Part::Signature) => self.count == 1"),
+    (10, "type 6 of any count in the header",
+     ONE_STRING, "(STRING | TRANSLATED_STRING, Part::Signature) => self.count == 1"),
+    (10, "type 8 held to 1", ONE_STRING, "(STRING_ARRAY, _) | " + ONE_STRING),
+    (10, "type 8 held to 1 in the signature",
+     ONE_STRING, "(STRING_ARRAY, Part::Signature) | " + ONE_STRING),
     (11, "not tested", "self.offset as usize % size == 0", "true"),
     (11, "int32 to 2",
      "self.offset as usize % size == 0", "self.offset as usize % size.min(2) == 0"),
@@ -99,6 +109,9 @@ FAULTS = [
     (12, "one string less",
      "let end = strings_end(store, start, count)?;",
      "let end = strings_end(store, start, count.max(2) - 1)?;"),
+    (12, "type 9 is its first string",
+     "self.run(store, 0, self.count as usize)",
+     "self.run(store, 0, if self.ty == 9 { 1 } else { self.count as usize })"),
     (13, "not tested", "earlier.all(|other| other.tag != record.tag)", "true"),
     (13, "only the record before",
      "structure.records().take(position);",
@@ -120,6 +133,9 @@ FAULTS = [
      "        self.records().skip(1)\n            .find("),
     (25, "place is the tag",
      "number: 25,\n            place: 0,", "number: 25,\n            place: tag,"),
+    (25, "translated string for string array",
+     "record.tag == tag && record.ty == ty",
+     "record.tag == tag && (record.ty == ty || (record.ty, ty) == (9, 8))"),
     (26, "one too many",
      "check(26, element < record.count, 0)", "check(26, element <= record.count, 0)"),
     (26, "place is the count",
@@ -128,6 +144,11 @@ FAULTS = [
     (26, "numbers of 16 bits",
      "check(26, element < record.count, 0)",
      "check(26, (element as u16) < record.count as u16, 0)"),
+    (26, "one locale only", CHECK_26, CHECK_26 + "    check(26, ty != 9 || element == 0, 0)?;\n"),
+    (26, "first locale for one that lacks", CHECK_26,
+     "    let element = if ty == 9 && element >= record.count { 0 } else { element };\n" + CHECK_26),
+    (26, "last locale for one that lacks", CHECK_26,
+     "    let element = if ty == 9 { element.min(record.count - 1) } else { element };\n" + CHECK_26),
     ("package", "whole store shown",
      "let start = offset + size * skipped;",
      "let start = offset * skipped.min(1) + size * skipped;"),
@@ -135,6 +156,9 @@ FAULTS = [
     ("package", "next string shown",
      "strings_end(store, offset, skipped)?",
      "strings_end(store, offset, skipped + usize::from(count == 1 && skipped > 1))?"),
+    ("package", "first translation shown",
+     "record.run(structure.store, element as usize, 1)",
+     "record.run(structure.store, if ty == 9 { 0 } else { element as usize }, 1)"),
     ("package", "place in the store", "self.store_place + part.start..", "part.start.."),
     ("package", "places of 15 bits",
      "self.store_place + part.start..", "(self.store_place + part.start) % 32_768.."),
@@ -146,7 +170,7 @@ FAULTS = [
      "signature.end().next_multiple_of(8)", "(signature.end() + 1).next_multiple_of(8)"),
     ("package", "signature stands alone",
      "let structure = sound(package)?.structure(structure);\n    match",
-     "let opened = if structure == 0 { Structure::read(package, 96)? } else { sound(package)?.header };\n"
+     "let opened = if structure == 0 { Structure::read(package, 96, Part::Signature)? } else { sound(package)?.header };\n"
      "    let structure = opened;\n"
      "    match"),
     ("package", "refuses everything",

@@ -51,6 +51,17 @@ LED_COUNT = (
     "        check(17, header.count(tag) == header.count(leader), tag as usize)?;\n"
     "    }\n"
 )
+LOCALES = "    check_locales(header)\n}\n"
+LED_GROUPS = "    for (leader, others) in LED {\n"
+IS_TRANSLATED = "record.ty == TRANSLATED_STRING"
+TRANSLATED = "header.records().filter(translated)"
+ENOUGH = "Some(record.count) <= locales"
+CHECK_LOCALES = (
+    "    for record in header.records().filter(translated) {\n"
+    "        check(17, Some(record.count) <= locales, record.tag as usize)?;\n"
+    "    }\n"
+)
+OVER = "header.records().filter(|one| translated(one) && Some(one.count) > locales)"
 SYSTEM_TEXT = '    check(18, is_text(header, 1021, b"linux\\0"), 1021)?;\n'
 PROGRAM_TEXTS = (
     "    for tag in 1085..=1088 {\n"
@@ -114,6 +125,12 @@ FAULTS = [
     (15, "place of the next tag", "check(15, agrees, place)", "check(15, agrees, place + 1)"),
     (15, "string for translated string",
      "record.ty == line.ty &&", "(record.ty == line.ty || (record.ty, line.ty) == (6, 9)) &&"),
+    (15, "string array for translated string",
+     "record.ty == line.ty &&", "(record.ty == line.ty || (record.ty, line.ty) == (8, 9)) &&"),
+    (15, "translated string for string array",
+     "record.ty == line.ty &&", "(record.ty == line.ty || (record.ty, line.ty) == (9, 8)) &&"),
+    (15, "translated string for string",
+     "record.ty == line.ty &&", "(record.ty == line.ty || (record.ty, line.ty) == (9, 6)) &&"),
     (15, "string for string array",
      "record.ty == line.ty &&", "(record.ty == line.ty || (record.ty, line.ty) == (6, 8)) &&"),
     (15, "int8 for bin",
@@ -133,6 +150,16 @@ FAULTS = [
     (15, "1114 held to 1",
      'Any,         Optional,      "RPMTAG_OBSOLETEFLAGS"',
      'Exactly(1),  Optional,      "RPMTAG_OBSOLETEFLAGS"'),
+    (15, "header's 1004 held to 1",
+     'Any,         Required,      "RPMTAG_SUMMARY"', 'Exactly(1),  Required,      "RPMTAG_SUMMARY"'),
+    (15, "header's 1005 held to 1",
+     'Any,         Required,      "RPMTAG_DESCRIPTION"',
+     'Exactly(1),  Required,      "RPMTAG_DESCRIPTION"'),
+    (15, "1016 held to 1",
+     'Any,         Required,      "RPMTAG_GROUP"', 'Exactly(1),  Required,      "RPMTAG_GROUP"'),
+    (15, "100 held to 1",
+     'Any,         Required,      "RPMTAG_HEADERI18NTABLE"',
+     'Exactly(1),  Required,      "RPMTAG_HEADERI18NTABLE"'),
     (15, "1033 of 32 bits",
      'INT16,        Any,         Required,      "RPMTAG_FILERDEVS"',
      'INT32,        Any,         Required,      "RPMTAG_FILERDEVS"'),
@@ -242,6 +269,64 @@ FAULTS = [
      + LED_MISSING),
     (17, "led place is the leader", LED_COUNT,
      LED_COUNT.replace("tag as usize", "leader as usize")),
+    (17, "locales not tested", LOCALES, "    Ok(())\n}\n"),
+    (17, "locales before the led groups",
+     LED_GROUPS, "    check_locales(header)?;\n" + LED_GROUPS),
+    (17, "locales before 1081's group",
+     LED_GROUPS,
+     LED_GROUPS + "        if leader == 1081 {\n            check_locales(header)?;\n        }\n"),
+    (17, "locales before the file names",
+     "    check_names(header, files)?;\n", "    check_locales(header)?;\n    check_names(header, files)?;\n"),
+    (17, "locales before all other groups", "    check_needs(signature, 1011, 1005)?;\n",
+     "    check_locales(header)?;\n    check_needs(signature, 1011, 1005)?;\n"),
+    (17, "locales after 18", LOCALES, "    check_texts(header)?;\n" + LOCALES),
+    (17, "fewer strings than locales", ENOUGH, "Some(record.count) < locales"),
+    (17, "as many strings as locales", ENOUGH, "Some(record.count) == locales"),
+    (17, "at least as many strings as locales", ENOUGH, "Some(record.count) >= locales"),
+    (17, "one string more than locales", ENOUGH, "Some(record.count - 1) <= locales"),
+    (17, "one string for one locale only", ENOUGH, "record.count == 1 || locales > Some(1)"),
+    (17, "strings of 8 bits", ENOUGH, "Some(record.count & 255) <= locales"),
+    (17, "locales of 8 bits", ENOUGH, "Some(record.count) <= locales.map(|count| count & 255)"),
+    (17, "strings of 15 bits", ENOUGH, "Some(record.count & 0x7FFF) <= locales"),
+    (17, "locales' lowest tag", CHECK_LOCALES,
+     "    let lowest = " + OVER + ".map(|one| one.tag).min();\n"
+     "    check(17, lowest.is_none(), lowest.unwrap_or(0) as usize)?;\n"),
+    (17, "locales' highest tag", CHECK_LOCALES,
+     "    let highest = " + OVER + ".map(|one| one.tag).max();\n"
+     "    check(17, highest.is_none(), highest.unwrap_or(0) as usize)?;\n"),
+    (17, "locales' last tag", CHECK_LOCALES,
+     "    let last = " + OVER + ".last();\n"
+     "    check(17, last.is_none(), last.map_or(0, |one| one.tag) as usize)?;\n"),
+    (17, "the tag of most strings", CHECK_LOCALES,
+     "    let most = " + OVER + ".max_by_key(|one| one.count);\n"
+     "    check(17, most.is_none(), most.map_or(0, |one| one.tag) as usize)?;\n"),
+    (17, "tags with a line first", CHECK_LOCALES,
+     "    let own = |one: &Record| matches!(one.tag, 1004 | 1005 | 1016);\n"
+     "    let place = " + OVER + ".find(own).or(" + OVER + ".next());\n"
+     "    check(17, place.is_none(), place.map_or(0, |one| one.tag) as usize)?;\n"),
+    (17, "locales of tags with a line only", IS_TRANSLATED,
+     IS_TRANSLATED + " && super::catalogue::HEADER.iter().any(|line| line.tag == record.tag)"),
+    (17, "locales of tags without a line only", IS_TRANSLATED,
+     IS_TRANSLATED + " && super::catalogue::HEADER.iter().all(|line| line.tag != record.tag)"),
+    (17, "locales of 1004, 1005 and 1016 only",
+     IS_TRANSLATED, IS_TRANSLATED + " && matches!(record.tag, 1004 | 1005 | 1016)"),
+    (17, "locales of 1004 and 1005 only",
+     IS_TRANSLATED, IS_TRANSLATED + " && record.tag != 1016"),
+    (17, "locales of the first tags only", IS_TRANSLATED, IS_TRANSLATED + " && record.tag < 1 << 31"),
+    (17, "locales of tags above 100 only", IS_TRANSLATED, IS_TRANSLATED + " && record.tag > 100"),
+    (17, "locales of the first entry only", TRANSLATED, TRANSLATED + ".take(1)"),
+    (17, "locales not of the first entry", TRANSLATED, TRANSLATED + ".skip(1)"),
+    (17, "locales of string arrays too", IS_TRANSLATED, "matches!(record.ty, 8 | TRANSLATED_STRING)"),
+    (17, "locales of string arrays only", IS_TRANSLATED, "record.ty == 8 && record.tag != 100"),
+    (17, "locales are 1118's", "let locales = header.count(100);", "let locales = header.count(1118);"),
+    (17, "locales are 1097's", "let locales = header.count(100);", "let locales = header.count(1097);"),
+    (17, "locales are 1004's", "let locales = header.count(100);", "let locales = header.count(1004);"),
+    (17, "locales are the signature's", LOCALES,
+     "    check(17, !signature.has(100) || signature.count(100) >= header.count(1004), 1004)?;\n" + LOCALES),
+    (17, "locales' place 100",
+     ENOUGH + ", record.tag as usize)", ENOUGH + ", 100)"),
+    (17, "locales' place is the count",
+     ENOUGH + ", record.tag as usize)", ENOUGH + ", record.count as usize)"),
 
     (18, "system not tested", SYSTEM_TEXT, ""),
     (18, "system's beginning",
@@ -436,6 +521,17 @@ FAULTS = [
      "self.tag != BATCH_WEIGHT || edition == 2",
      "self.tag != BATCH_WEIGHT && self.tag != 1045 || edition == 2"),
     ("demand3", "no groups in edition 1", GROUPS, "    if edition == 2 {\n    " + GROUPS + "    }\n"),
+    ("demand3", "locales in edition 2 only", GROUPS,
+     "    let of_locales = |place| header.tagged(place).is_some_and(|record| record.ty == 9);\n"
+     "    match contents::check_groups(&opened) {\n"
+     "        Err(refusal) if edition == 1 && of_locales(refusal.place) => {}\n"
+     "        other => other?,\n"
+     "    }\n"),
+    ("demand3", "20002 has no locales in edition 1", GROUPS,
+     "    match contents::check_groups(&opened) {\n"
+     "        Err(refusal) if edition == 1 && refusal.place == BATCH_WEIGHT => {}\n"
+     "        other => other?,\n"
+     "    }\n"),
     ("demand3", "other milligrams in edition 2",
      "check(22, dose.is_right(), place)",
      "check(22, dose.is_right() && (edition == 1 || dose.milligrams < 5_000_000), place)"),

@@ -37,7 +37,7 @@ CONTENT = "one damage to an accepted package"
 # The families to try for the writer's faults before all others.
 WRITING = [
     "one wrong thing to write", "written packages", "names", "numbers of entries", "repeated tags",
-    "sizes of written packages", "buffers to write to",
+    "sizes of written packages", "buffers to write to", "translated strings to write",
 ]
 # The family to try before all others; for the checks that aren't here, "one damage".
 FIRST = {
@@ -47,6 +47,11 @@ FIRST = {
     23: CONTENT, 24: "dose buffers", 25: "right packages", 26: "right packages",
     "package": "right packages", "buffer": "dose buffers", "demand3": "kinds",
     33: "sizes of written packages", 34: "buffers to write to", "writer": "written packages",
+}
+# Those to try next.
+NEXT = {
+    10: ["translated strings"], 12: ["translated strings"], 17: ["locales"],
+    26: ["translated strings"], "demand3": ["locales"],
 }
 SAMPLES = "the reference's own samples"
 
@@ -100,7 +105,7 @@ def plant(right, old, new):
 
 def families(check):
     """Those to try before all others."""
-    first = [FIRST.get(check, "one damage")]
+    first = [FIRST.get(check, "one damage"), *NEXT.get(check, [])]
     return WRITING if check == 32 else first + WRITING if check in (33, 34, "writer") else first
 
 

@@ -2,7 +2,8 @@
 
 # As in package_faults.py. Texts are those of writer.rs.
 TYPE = "    check(32, elements(record.ty).is_some(), 0)?;\n"
-COUNT = "    check(32, record.count_is_right(), 0)?;\n"
+COUNT = "    check(32, record.count_is_right(part), 0)?;\n"
+RIGHT_COUNT = "check(32, record.count_is_right(part)"
 STRINGS = "data.ends_with(&[0]) && zeros(data) == count"
 REPEATS = "earlier.tag == record.tag"
 REPEATED = "            check(32, !self.entries.iter().any(repeats), 0)?;\n"
@@ -16,10 +17,10 @@ NAME = (
     "    check(32, !name.contains(&0), 0)?;\n"
 )
 FIRST = "    first.put(SIGSIZE, &size);\n"
-SIGNATURE = "    first.put_list(signature)?;\n"
+SIGNATURE = "    first.put_list(signature, Part::Signature)?;\n"
 LAYOUT = (
     "    let mut second = Layout::default();\n"
-    "    second.put_list(header)?;\n"
+    "    second.put_list(header, Part::Header)?;\n"
     "    // From H to the end there is the header alone.\n"
     "    let size = (second.size() as u32).to_be_bytes();\n"
     "    let mut first = Layout::default();\n"
@@ -59,18 +60,31 @@ FAULTS = [
     (32, "type of 8 bits", "ty: be32(numbers, 4),\n                offset: 0",
      "ty: be32(numbers, 4) & 255,\n                offset: 0"),
     (32, "count not tested", COUNT, ""),
-    (32, "count 0 allowed",
-     "check(32, record.count_is_right(), 0)",
-     "check(32, record.count_is_right() || record.count == 0, 0)"),
-    (32, "count 2 for type 6",
-     "check(32, record.count_is_right(), 0)",
-     "check(32, record.count_is_right() || record.ty == 6, 0)"),
-    (32, "count 2 for type 9",
-     "check(32, record.count_is_right(), 0)",
-     "check(32, record.count_is_right() || record.ty == 9, 0)"),
+    (32, "count 0 allowed", RIGHT_COUNT, RIGHT_COUNT + " || record.count == 0"),
+    (32, "count 2 for type 6", RIGHT_COUNT, RIGHT_COUNT + " || record.ty == 6"),
+    (32, "type 9 of any count in the signature",
+     RIGHT_COUNT, RIGHT_COUNT + " || record.ty == 9 && record.count > 0"),
+    (32, "type 9 of none", COUNT,
+     "    if record.ty == 9 && record.count == 0 && data.is_empty() {\n        return Ok(());\n    }\n" + COUNT),
+    (32, "type 9 held to 1 in the header",
+     RIGHT_COUNT, RIGHT_COUNT + " && (record.ty != 9 || record.count == 1)"),
+    (32, "type 9 refused in the signature",
+     RIGHT_COUNT, RIGHT_COUNT + " && (record.ty, part) != (9, Part::Signature)"),
+    (32, "signature's list as the header's",
+     "put_list(signature, Part::Signature)", "put_list(signature, Part::Header)"),
+    (32, "header's list as the signature's",
+     "put_list(header, Part::Header)", "put_list(header, Part::Signature)"),
+    (32, "type 9 not counted", STRINGS, "data.ends_with(&[0]) && (zeros(data) == count || record.ty == 9)"),
+    (32, "more strings than locales refused", REPEATED, REPEATED +
+     "            let locales = self.entries.iter().find(|(one, _)| one.tag == 100);\n"
+     "            let locales = locales.map_or(u32::MAX, |(one, _)| one.count);\n"
+     "            check(32, record.ty != 9 || record.count <= locales, 0)?;\n"),
+    (32, "several strings without locales refused", LEFT_OVER,
+     "        let has_locales = self.entries.iter().any(|(one, _)| one.tag == 100);\n"
+     "        let several = self.entries.iter().any(|(one, _)| one.ty == 9 && one.count > 1);\n"
+     "        check(32, has_locales || !several, 0)?;\n" + LEFT_OVER),
     (32, "type 8 held to 1",
-     "check(32, record.count_is_right(), 0)",
-     "check(32, record.count_is_right() && (record.ty != 8 || record.count == 1), 0)"),
+     RIGHT_COUNT, RIGHT_COUNT + " && (record.ty != 8 || record.count == 1)"),
     (32, "data not tested", "    check(32, right, 0)\n", "    check(32, right || true, 0)\n"),
     (32, "numbers' size not tested", "data.len() == size * count", "true"),
     (32, "more numbers accepted", "data.len() == size * count", "data.len() >= size * count"),
@@ -198,8 +212,8 @@ FAULTS = [
     ("writer", "count of bytes", RECORD, RECORD.replace("record.count", "data.len() as u32")),
     ("writer", "records in reverse",
      "places.zip(&self.entries)", "places.zip(self.entries.iter().rev())"),
-    ("writer", "records by tag", "    second.put_list(header)?;\n",
-     "    second.put_list(header)?;\n    second.entries.sort_by_key(|(record, _)| record.tag);\n"),
+    ("writer", "records by tag", "    second.put_list(header, Part::Header)?;\n",
+     "    second.put_list(header, Part::Header)?;\n    second.entries.sort_by_key(|(record, _)| record.tag);\n"),
     ("writer", "data in another order", DATA,
      "let after = store.len() - record.offset as usize - data.len();\n"
      "            store[after..][..data.len()].copy_from_slice(data);"),

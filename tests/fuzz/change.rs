@@ -7,7 +7,7 @@ use reference::catalogue::{Line, HEADER, SIGNATURE};
 use crate::entries::{any_data, any_text, data, extent, pack, position, put, put_line};
 use crate::entries::{set_data, set_number};
 use crate::input::{self, ASKED, FILL, ROOM};
-use crate::maker::{Package, Structure, S};
+use crate::maker::{is_single, Package, Structure, S};
 use crate::questions::EXTREMES;
 use crate::random::Random;
 
@@ -175,31 +175,33 @@ fn change_head(input: &mut [u8], random: &mut Random) {
 
 // ---- Entries ----
 
+/// One of the structures, with its number and its lines.
 fn either<'a>(
     package: &'a mut Package,
     random: &mut Random,
-) -> (&'a mut Structure, &'static [Line]) {
+) -> (usize, &'a mut Structure, &'static [Line]) {
     match random.one_in(4) {
-        true => (&mut package.signature, &SIGNATURE),
-        false => (&mut package.header, &HEADER),
+        true => (0, &mut package.signature, &SIGNATURE),
+        false => (1, &mut package.header, &HEADER),
     }
 }
 
 fn change_parts(package: &mut Package, random: &mut Random) {
     let files = position(&package.header, 1028).map_or(1, |at| package.header.records[at][3]);
     let files = files.clamp(1, 8);
-    match random.below(18) {
+    match random.below(19) {
         0..=3 => change_book(&mut package.header, random),
         4 | 5 => change_group(package, random),
         6 => change_files(&mut package.header, random),
         7 => change_text(&mut package.header, random),
         8 => change_rest(package, random),
+        9 => change_locales(&mut package.header, random),
         n => {
-            let (structure, lines) = either(package, random);
+            let (number, structure, lines) = either(package, random);
             match n {
-                9 | 10 => change_field(structure, lines, random),
-                11 | 12 => change_data(structure, random),
-                13 | 14 => {
+                10 | 11 => change_field(structure, lines, random),
+                12 | 13 => change_data(structure, number, random),
+                14 | 15 => {
                     let any = 1 + random.below(3) as u32;
                     let count = random.pick(&[any, files]);
                     let line = random_line(lines, random);
@@ -232,7 +234,7 @@ fn change_field(structure: &mut Structure, lines: &[Line], random: &mut Random) 
 }
 
 /// Other data for a record, in its place or a new one.
-fn change_data(structure: &mut Structure, random: &mut Random) {
+fn change_data(structure: &mut Structure, number: usize, random: &mut Random) {
     let at = random.below(structure.records.len());
     let record = structure.records[at];
     let Some(extent) = extent(structure, record) else {
@@ -247,9 +249,9 @@ fn change_data(structure: &mut Structure, random: &mut Random) {
             set_data(structure, at, record[1], record[3], &texts);
         }
         _ => {
-            let count = match record[1] {
-                6 | 9 => 1,
-                _ => random
+            let count = match is_single(number, record[1]) && !random.one_in(8) {
+                true => 1,
+                false => random
                     .pick(&[record[3] - 1, record[3], record[3] + 1])
                     .clamp(1, 64),
             };
@@ -328,6 +330,28 @@ fn change_files(header: &mut Structure, random: &mut Random) {
         let folders = 1 + random.below(2) as u32;
         put_line(header, random, line(1118), folders);
         header.records.retain(|record| record[0] != 1027);
+    }
+}
+
+/// Another number of locales, and strings for some of them, or for one more.
+fn change_locales(header: &mut Structure, random: &mut Random) {
+    // Sometimes 256 more: the low bits are those of a small number.
+    let many = random.pick(&[0, 0, 0, 0, 0, 0, 0, 256]);
+    let locales = 1 + random.below(5) as u32 + many * random.below(2) as u32;
+    let mut texts = |tag, ty, count, random: &mut Random| {
+        let data = any_data(random, tag, ty, count);
+        put(header, tag, ty, count, &data);
+    };
+    if !random.one_in(4) {
+        texts(100, 8, locales, random);
+    }
+    let other = random.pick(&[99, 5000, 20_003, u32::MAX]);
+    for tag in [1004, 1005, 1016, other] {
+        let some = 1 + random.below(locales as usize) as u32;
+        let count = random.pick(&[some, some, locales, locales + 1, some + many]);
+        if random.one_in(2) {
+            texts(tag, 9, count, random);
+        }
     }
 }
 
@@ -417,8 +441,22 @@ fn change_book(header: &mut Structure, random: &mut Random) {
 
 // ---- Repairs ----
 
-/// Makes 1000 the length from H on and 20002 the sum of the doses, in most cases.
+/// A locale for each translated string.
+fn repair_locales(header: &mut Structure, random: &mut Random) {
+    let translated = header.records.iter().filter(|record| record[1] == 9);
+    let most = translated.map(|record| record[3]).max().unwrap_or(0);
+    let own = position(header, 100).map(|at| header.records[at]);
+    if own.is_some_and(|own| own[1] == 8 && own[3] < most) && most <= 64 {
+        put(header, 100, 8, most, &any_data(random, 100, 8, most));
+    }
+}
+
+/// Makes 1000 the length from H on and 20002 the sum of the doses, in most cases, and
+/// often the locales enough.
 fn repair(package: &mut Package, random: &mut Random, most: usize) {
+    if random.one_in(2) {
+        repair_locales(&mut package.header, random);
+    }
     if package.bytes().len() > most || random.one_in(64) {
         pack(&mut package.signature);
         pack(&mut package.header);

@@ -122,12 +122,22 @@ fn change_entry(entries: &mut [Entry], random: &mut Random) {
     let at = random.below(entries.len());
     let entry = &mut entries[at];
     let (len, any) = (entry.data.len(), random.below(12) as u32);
-    match random.below(6) {
+    match random.below(7) {
         0 => entry.tag = random.pick(&[other, 1000, other ^ 1 << 16, entry.tag ^ 1]),
         1 => entry.ty = [any, near(random, entry.ty)][random.below(2)],
         2 => entry.count = near(random, entry.count),
         3 => entry.size = near(random, entry.size),
         4 if len > 0 => entry.data[random.below(len)] = random.pick(&[0, 1]),
+        // A string more, or one less.
+        5 if matches!(entry.ty, 6 | 8 | 9) => {
+            let mut data = std::mem::take(&mut entry.data);
+            match random.one_in(3) {
+                true => drop(data.pop()),
+                false => data.push(0),
+            }
+            entry.count = data.iter().filter(|&&byte| byte == 0).count() as u32;
+            entry.set_data(data);
+        }
         _ => {
             let mut data = std::mem::take(&mut entry.data);
             change_length(&mut data, random);

@@ -49,6 +49,15 @@ def field(bits, structure, tag, number, value):
     raise KeyError(tag)
 
 
+def swapped(bits, one, other):
+    """The package with the header's index records of two tags exchanged."""
+    start = header_start(bits)
+    nindex = struct.unpack_from('>I', bits, start + 8)[0]
+    places = {struct.unpack_from('>I', bits, at)[0]: at for at in range(start + 16, start + 16 + 16 * nindex, 16)}
+    first, second = (bits[places[tag]:places[tag] + 16] for tag in (one, other))
+    return put(places[one], second, put(places[other], first, bits))
+
+
 def header_start(bits):
     nindex, hsize = struct.unpack_from('>II', bits, S + 8)
     end = S + 16 + 16 * nindex + hsize
@@ -98,6 +107,11 @@ OTHER_TAGS = {
     30001: (CHAR, b'abc'), 30002: (INT8, [1, 2]), 30003: (INT16, [1, 2, 3]), 30004: (INT32, [4, 5]),
     30005: (STRING, b'one'), 30006: (I18N, b'two'), 30007: (STRINGS, [b'', b'three']),
 }
+LOCALES = {
+    100: (STRINGS, [b'C', b'de', b'pt_BR']), 1004: (I18N, [b'A book', b'Ein Buch', b'Um livro']),
+    1005: (I18N, [b'', b'']), 30006: (I18N, [b'one', b'', b'three']),
+}
+TWO = (I18N, [b'one', b'two'])
 OLD_NAMES = {tag: entry for tag, entry in FILES.items() if tag < 1116} | {1027: (STRINGS, [b'/a', b'/srv/b', b'/c'])}
 FULL = 1 << 16
 
@@ -117,6 +131,9 @@ SEEDS = {
         1010: (STRING, b'a'), 1011: (BIN, b'1'), 1012: (BIN, b'2')}), '0@1'),
     'accepted_both_far_entry': both(
         short(right(DOSE, header={30001: (BIN, bytes(60000)), 30002: (INT8, [0])}), tag=30002, ty=INT8), '0@1'),
+    'accepted_both_locales': both(ask(right(DOSE, header=LOCALES), tag=1004, ty=I18N, element=2), '0@1'),
+    'accepted_both_256_locales': both(right(DOSE, header={100: (STRINGS, [b''] * 256), 1005: TWO}), '0@1'),
+    'accepted_both_signature_text': both(right(DOSE, signature={30006: (I18N, b'one')}), '0@1'),
     'accepted_both_long_name': both(put(10, b'x' * 65 + b'\0', RIGHT), '0@1'),
     'accepted_edition_2_tolerance': (right(TOLERATED), '20@0', '0@1'),
     'accepted_edition_2_all_kinds': (right(PAGE + DOSE + DATE + TOLERATED), '20@15', '0@2'),
@@ -136,15 +153,19 @@ SEEDS = {
     'check09_type_5': at_record(H, 1022, TYPE, 5, 9),
     'check10_none': at_record(H, 1028, COUNT, 0, 10),
     'check10_two_strings': at_record(H, 1021, COUNT, 2, 10),
+    'check10_no_translation': at_record(H, 1004, COUNT, 0, 10),
+    'check10_signature_translations': both(right(DOSE, header=LOCALES, signature={30006: TWO}), f'10@{S + 48}'),
     'check11_int32': at_record(S, 1000, OFFSET, 2, 11),
     'check11_int16': at_record(H, 1030, OFFSET, 1, 11),
     'check12_product_wraps': at_record(H, 1028, COUNT, 0x40000001, 12),
     'check12_strings': at_record(H, 1117, COUNT, 1000, 12),
+    'check12_translations': at_record(H, 1005, COUNT, 1000, 12),
     'check13_tag_twice': at_record(H, 1022, TAG, 1021, 13),
     'check14_signature': both(field(RIGHT, S, 1004, TAG, 1003)[0], '14@1004'),
     'check14_header': wrong_header('14@1126', {}, drop=[1126]),
     'check15_signature': both(right(DOSE, signature={1004: (BIN, bytes(17))}), '15@1004'),
     'check15_header': wrong_entry('15@1004', 1004, STRING, b'A book'),
+    'check15_locales': wrong_header('15@100', {100: TWO, 1004: TWO}),
     'check15_weight': (right(DOSE, header={20002: (INT32, [1250, 1250])}), '0@1', '15@20002'),
     'check16_whole_length': both(right(DOSE, signature={1000: (INT32, [len(RIGHT)])}), '16@1000'),
     'check17_signature': both(right(DOSE, signature={1012: (BIN, b'1')}), '17@1002'),
@@ -152,6 +173,14 @@ SEEDS = {
     'check17_file_count': wrong_entry('17@1037', 1037, INT32, [0, 0]),
     'check17_both_names': wrong_entry('17@1027', 1027, STRINGS, [b'/a']),
     'check17_leader': wrong_header('17@1081', {1080: (INT32, [0]), 1082: (STRINGS, [b''])}),
+    'check17_locales': wrong_entry('17@1016', 1016, *TWO),
+    'check17_locales_other_tag': wrong_header('17@30006', LOCALES | {30006: (I18N, [b''] * 4), 30007: (STRINGS, [b''] * 5)}),
+    'check17_locales_in_index_order': both(swapped(right(DOSE, header={1005: TWO, 30006: TWO}), 1005, 30006), '17@30006'),
+    'check17_locales_256_more': wrong_entry('17@1004', 1004, I18N, [b''] * 257),
+    'check17_locales_32769': both(short(right(DOSE, header={30006: (I18N, [b''] * 32769)})), '17@30006'),
+    'check17_leader_before_locales': wrong_header('17@1080', {1004: TWO, 1081: (STRINGS, [b'we'])}),
+    'check17_locales_before_system': wrong_header('17@1004', {1004: TWO, 1021: (STRING, b'linuxx')}),
+    'check17_weight_in_edition_1': (right(DOSE, header={20002: TWO}), '17@20002', '15@20002'),
     'check18_system': wrong_entry('18@1021', 1021, STRING, b'linuxx'),
     'check18_program': wrong_entry('18@1087', 1087, STRING, b'/bin/bash'),
     'check18_index': wrong_entry('18@1116', 1116, INT32, [1]),
@@ -164,6 +193,8 @@ SEEDS = {
     'check23_sum': (right(DOSE, batch=1249), '0@1', '23@20002'),
     'check24_no_room': both(ask(right(DOSE + DOSE), room=15), '0@2'),
     'check25_other_type': both(ask(RIGHT, tag=1028, ty=INT16), '0@1'),
+    'check25_translated': both(ask(right(DOSE, header=LOCALES), tag=1004, ty=STRINGS), '0@1'),
+    'check26_locale': both(ask(right(DOSE, header=LOCALES), tag=1005, ty=I18N, element=2), '0@1'),
     'check26_element': both(ask(RIGHT, tag=1028, ty=INT32, element=1), '0@1'),
 }
 

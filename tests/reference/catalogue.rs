@@ -1,4 +1,4 @@
-//! The catalogue, copied from document 000 under document 01's exceptions, and
+//! The catalogue, copied from document 000 under the exceptions of documents 01 and 02, and
 //! checks 14 and 15. tables.txt holds 000's tables as printed; a test compares.
 
 use super::TRANSLATED_STRING as I18NSTRING;
@@ -71,15 +71,15 @@ pub const HEADER: [Line; 71] = [
     line(1000,  STRING,       Exactly(1),  Required,      "RPMTAG_NAME"),
     line(1001,  STRING,       Exactly(1),  Required,      "RPMTAG_VERSION"),
     line(1002,  STRING,       Exactly(1),  Required,      "RPMTAG_RELEASE"),
-    line(1004,  I18NSTRING,   Exactly(1),  Required,      "RPMTAG_SUMMARY"),
-    line(1005,  I18NSTRING,   Exactly(1),  Required,      "RPMTAG_DESCRIPTION"),
+    line(1004,  I18NSTRING,   Any,         Required,      "RPMTAG_SUMMARY"), // 000: 1
+    line(1005,  I18NSTRING,   Any,         Required,      "RPMTAG_DESCRIPTION"), // 000: 1
     line(1006,  INT32,        Exactly(1),  Informational, "RPMTAG_BUILDTIME"),
     line(1007,  STRING,       Exactly(1),  Informational, "RPMTAG_BUILDHOST"),
     line(1009,  INT32,        Exactly(1),  Required,      "RPMTAG_SIZE"),
     line(1010,  STRING,       Exactly(1),  Informational, "RPMTAG_DISTRIBUTION"),
     line(1011,  STRING,       Exactly(1),  Informational, "RPMTAG_VENDOR"),
     line(1014,  STRING,       Exactly(1),  Required,      "RPMTAG_LICENSE"),
-    line(1016,  I18NSTRING,   Exactly(1),  Required,      "RPMTAG_GROUP"),
+    line(1016,  I18NSTRING,   Any,         Required,      "RPMTAG_GROUP"), // 000: 1
     line(1020,  STRING,       Exactly(1),  Informational, "RPMTAG_URL"),
     line(1021,  STRING,       Exactly(1),  Required,      "RPMTAG_OS"),
     line(1022,  STRING,       Exactly(1),  Required,      "RPMTAG_ARCH"),

@@ -1,6 +1,6 @@
 //! Groups (check 17) and texts (check 18), sentence by sentence.
 
-use super::{check, Checked, Opened, Structure};
+use super::{check, Checked, Opened, Record, Structure, TRANSLATED_STRING};
 
 impl Structure<'_> {
     fn has(&self, tag: u32) -> bool {
@@ -27,7 +27,7 @@ const LED: [(u32, [u32; 2]); 5] = [
     (1081, [1080, 1082]),
 ];
 
-/// Within a group tags rise, so the lowest one comes first.
+/// Within a group of named tags they rise, so the lowest one comes first.
 pub(super) fn check_groups(package: &Opened) -> Checked<()> {
     let Opened {
         signature, header, ..
@@ -46,7 +46,7 @@ pub(super) fn check_groups(package: &Opened) -> Checked<()> {
     for (leader, others) in LED {
         check_led(header, leader, others)?;
     }
-    Ok(())
+    check_locales(header)
 }
 
 fn check_needs(structure: &Structure, tag: u32, needed: u32) -> Checked<()> {
@@ -79,6 +79,16 @@ fn check_led(header: &Structure, leader: u32, others: [u32; 2]) -> Checked<()> {
     }
     for tag in others {
         check(17, header.count(tag) == header.count(leader), tag as usize)?;
+    }
+    Ok(())
+}
+
+/// No more strings than tag 100 has locales; the first in index order that has more.
+fn check_locales(header: &Structure) -> Checked<()> {
+    let locales = header.count(100);
+    let translated = |record: &Record| record.ty == TRANSLATED_STRING;
+    for record in header.records().filter(translated) {
+        check(17, Some(record.count) <= locales, record.tag as usize)?;
     }
     Ok(())
 }

@@ -1,4 +1,4 @@
-//! The rules of document 01 a second time, in ordinary Rust.
+//! The rules of document 01, as document 02 amends them, a second time, in ordinary Rust.
 //!
 //! Written from the papers alone, to be compared with the proved library.
 //! The order is the paper's: here lead, header structure, checks 2 to 13 and
@@ -90,6 +90,13 @@ pub const HEADER_RECORD_SIZE: usize = 16;
 pub const INDEX_RECORD_SIZE: usize = 16;
 pub const MAX_NINDEX: usize = 512;
 
+/// Which of the two structures.
+#[derive(Clone, Copy, Debug, PartialEq, Eq)]
+pub enum Part {
+    Signature,
+    Header,
+}
+
 /// A header structure's index and store, with their file offsets.
 #[derive(Clone, Copy, Debug)]
 pub struct Structure<'a> {
@@ -153,9 +160,10 @@ impl Record {
         }
     }
 
-    fn count_is_right(&self) -> bool {
-        match self.ty {
-            STRING | TRANSLATED_STRING => self.count == 1,
+    /// A translated string of the header has a string for each locale.
+    fn count_is_right(&self, part: Part) -> bool {
+        match (self.ty, part) {
+            (STRING, _) | (TRANSLATED_STRING, Part::Signature) => self.count == 1,
             _ => self.count >= 1,
         }
     }
@@ -192,7 +200,7 @@ impl Record {
 
 impl<'a> Structure<'a> {
     /// Checks 5 to 13 on the structure that starts at `start`.
-    fn read(package: &'a [u8], start: usize) -> Checked<Structure<'a>> {
+    fn read(package: &'a [u8], start: usize, part: Part) -> Checked<Structure<'a>> {
         let index_place = start + HEADER_RECORD_SIZE;
         check(5, index_place <= package.len(), start)?;
         let magic = &package[start..start + 4];
@@ -215,7 +223,7 @@ impl<'a> Structure<'a> {
         for (position, record) in structure.records().enumerate() {
             let place = structure.record_place(position);
             check(9, elements(record.ty).is_some(), place)?;
-            check(10, record.count_is_right(), place)?;
+            check(10, record.count_is_right(part), place)?;
             check(11, record.is_aligned(), place)?;
             check(12, record.data(structure.store).is_some(), place)?;
             let mut earlier = structure.records().take(position);
@@ -292,9 +300,9 @@ pub fn sound(package: &[u8]) -> Checked<Opened<'_>> {
     check(2, package.len() <= MAX_PACKAGE, 0)?;
     check(3, package.len() >= LEAD_SIZE, package.len())?;
     check_lead(&package[..LEAD_SIZE])?;
-    let signature = Structure::read(package, LEAD_SIZE)?;
+    let signature = Structure::read(package, LEAD_SIZE, Part::Signature)?;
     let header_start = signature.end().next_multiple_of(8);
-    let header = Structure::read(package, header_start)?;
+    let header = Structure::read(package, header_start, Part::Header)?;
     Ok(Opened {
         signature,
         header,

@@ -155,19 +155,23 @@ fn packages_of_other_writers() {
             include_bytes!(concat!("../data/", $name, ".rpm"))
         };
     }
-    let no_book: [&[u8]; 5] = [
+    let no_book: [&[u8]; 6] = [
         data!("rb-one"),
         data!("rb-deps"),
         data!("rb-scripts"),
+        data!("rb-i18n"),
         data!("rb-signed-rsa"),
         data!("rb-legacy-nodirtokens-kinds"),
     ];
-    let houses: [&[u8]; 2] = [data!("house-one-region"), data!("house-make-64")];
+    let houses: [&[u8]; 3] = [
+        data!("house-one-region"),
+        data!("house-i18n"),
+        data!("house-make-64"),
+    ];
     for edition in [1, 2] {
         for package in no_book {
             assert_eq!(doses(edition, package), refused(14, 20001));
         }
-        assert_eq!(doses(edition, data!("rb-i18n")), refused(10, 4600));
         for package in houses {
             assert_eq!(doses(edition, package), Ok(vec![[27, 1250]]));
         }
@@ -275,6 +279,9 @@ fn lines_one_by_one() {
         for tag in [1002, 1005] {
             assert_eq!(with(&[(S, bin(tag, &vec![1; count]))]), right());
         }
+    }
+    for tag in [1004, 1005, 1016] {
+        assert_eq!(with(&[locales(2), translated(tag, 2)]), right());
     }
     // The batch weight has a line in edition 2 only.
     let mut content = Content::least(&[0], 0);
@@ -426,6 +433,113 @@ fn groups_that_are_led() {
     assert_eq!(with(&both), refused(17, 1050));
     assert_eq!(with(&both[1..]), refused(17, 1112));
     assert_eq!(with(&both[2..]), refused(17, 1053));
+}
+
+/// Tag 100, with so many locales.
+fn locales(count: u32) -> (usize, Item) {
+    texts(100, count)
+}
+
+/// A translated string, with so many strings.
+fn translated(tag: u32, count: u32) -> (usize, Item) {
+    (H, strings(tag, 9, &vec!["text"; count as usize]))
+}
+
+#[test]
+fn translated_strings_and_locales() {
+    // With a line, below and above all of them, and extreme.
+    for tag in [1004, 1005, 1016, 0, 99, 1012, 20003, 1 << 31, u32::MAX] {
+        for count in 1..=5 {
+            for strings in 1..=count {
+                let items = [locales(count), translated(tag, strings)];
+                assert_eq!(with(&items), right());
+            }
+            for strings in [count + 1, count + 2, count + 256, 1000] {
+                let items = [locales(count), translated(tag, strings)];
+                assert_eq!(with(&items), refused(17, tag));
+            }
+        }
+    }
+    // String arrays have nothing to do with locales.
+    assert_eq!(with(&[texts(1012, 9)]), right());
+    assert_eq!(with(&[locales(9)]), right());
+    // The tag's line goes before, so do 100's.
+    assert_eq!(with(&[translated(1021, 2)]), refused(15, 1021));
+    let wrong = translated(1004, 2);
+    assert_eq!(changed(&[wrong.clone()], &[(H, 100)]), refused(14, 100));
+    for ty in [6, 9] {
+        let other = (H, strings(100, ty, &["C"]));
+        assert_eq!(with(&[other, wrong.clone()]), refused(15, 100));
+    }
+    assert_eq!(with(&[translated(100, 2), wrong]), refused(15, 100));
+}
+
+#[test]
+fn locales_in_index_order() {
+    // The least package's tags rise; others come behind, as they are put in.
+    let high = || translated(30_000, 2);
+    let low = || translated(5, 2);
+    assert_eq!(with(&[high(), low()]), refused(17, 30_000));
+    assert_eq!(with(&[low(), high()]), refused(17, 5));
+    assert_eq!(with(&[low(), translated(1016, 2)]), refused(17, 1016));
+    let all = [1016, 1005, 1004].map(|tag| translated(tag, 2));
+    assert_eq!(with(&all), refused(17, 1004));
+    assert_eq!(with(&all[..2]), refused(17, 1005));
+    // One that is right goes before one that isn't.
+    let items = [
+        locales(2),
+        translated(1004, 2),
+        translated(7, 3),
+        translated(6, 4),
+    ];
+    assert_eq!(with(&items), refused(17, 7));
+}
+
+#[test]
+fn locales_are_the_last_group() {
+    let wrong = || translated(1004, 2);
+    assert_eq!(with(&[wrong(), (S, bin(1011, &[1]))]), refused(17, 1005));
+    assert_eq!(with(&[wrong(), texts(1117, 2)]), refused(17, 1117));
+    assert_eq!(with(&[wrong(), texts(1081, 1)]), refused(17, 1080));
+    let system = (H, strings(1021, 6, &["x"]));
+    assert_eq!(with(&[wrong(), system]), refused(17, 1004));
+    assert_eq!(
+        with(&[wrong(), (H, bin(20001, &[0x80]))]),
+        refused(17, 1004)
+    );
+    assert_eq!(
+        with(&[wrong(), (H, bin(20001, &[0; 4097]))]),
+        refused(17, 1004)
+    );
+    // Edition 1 has no line for the batch weight, so it may be translated there.
+    let mut content = Content::least(&[0], 0);
+    for (strings, number) in [(1, 0), (2, 17)] {
+        content.put(H, translated(20002, strings).1);
+        let one = if number == 0 {
+            right()
+        } else {
+            refused(17, 20002)
+        };
+        assert_eq!(doses(1, &content.bytes()), one);
+        assert_eq!(doses(2, &content.bytes()), refused(15, 20002));
+    }
+}
+
+#[test]
+fn translated_strings_of_the_signature() {
+    let package = |strings: u32| {
+        let mut content = Content::least(&[0], 0);
+        content.put(H, locales(3).1);
+        content.put(S, translated(1016, strings).1);
+        content.bytes()
+    };
+    for edition in [1, 2] {
+        assert_eq!(doses(edition, &package(1)), right());
+        // The third record of the signature.
+        for strings in [2, 3, 4] {
+            assert_eq!(doses(edition, &package(strings)), refused(10, 96 + 16 + 32));
+        }
+    }
 }
 
 #[test]

@@ -203,22 +203,51 @@ fn index_records() {
         assert_eq!(check([1, ty, 0, 1]), Err(13));
         assert_eq!(check([1, ty, 12, 1]), Err(12));
     }
-    for ty in [6, 9] {
-        assert_eq!(check([2, ty, 0, 2]), Err(10));
-    }
+    assert_eq!(check([2, 6, 0, 2]), Err(10));
     assert_eq!(check([2, 3, 1, 9]), Err(11));
     assert_eq!(check([2, 4, 2, 9]), Err(11));
     // The last element, and the last string's zero.
     assert_eq!(check([2, 3, 10, 1]), Ok(()));
     assert_eq!(check([2, 3, 10, 2]), Err(12));
-    assert_eq!(check([2, 8, 0, 3]), Ok(()));
-    assert_eq!(check([2, 8, 0, 4]), Err(12));
-    assert_eq!(check([2, 8, 9, 1]), Err(12));
+    for ty in [8, 9] {
+        assert_eq!(check([2, ty, 0, 3]), Ok(()));
+        assert_eq!(check([2, ty, 0, 4]), Err(12));
+        assert_eq!(check([2, ty, 9, 1]), Err(12));
+    }
     // Products and sums that wrap in 32 bits.
     assert_eq!(check([2, 4, 0, 1 << 30]), Err(12));
     assert_eq!(check([2, 3, 0, (1 << 31) + 1]), Err(12));
     assert_eq!(check([2, 4, u32::MAX - 3, 1]), Err(12));
     assert_eq!(check([2, 8, 0, u32::MAX]), Err(12));
+    assert_eq!(check([2, 9, 0, u32::MAX]), Err(12));
+}
+
+#[test]
+fn translated_strings() {
+    // The same three strings in either structure.
+    let records = |count| structure(&[[1, 1, 0, 1], [2, 9, 0, count]], b"Glas\0\0glass\0");
+    let signature = |count| Package::of(records(count), plain()).bytes();
+    assert_eq!(refusal(&signature(1)), Ok(()));
+    for count in [0, 2, 3, 4, 257, 65_537, u32::MAX] {
+        assert_eq!(refusal(&signature(count)), refused(10, S + 32));
+    }
+    assert_eq!(refusal(&with_header(records(0))), refused(10, H + 32));
+    assert_eq!(refusal(&with_header(records(4))), refused(12, H + 32));
+    let store = H + 48;
+    for count in 1..=3 {
+        let package = with_header(records(count));
+        let starts = [0, 5, 6, 12].map(|start| store + start);
+        let whole = store..starts[count as usize];
+        assert_eq!(find(&package, 1, 2, 9), Ok(whole));
+        assert_eq!(find(&package, 1, 2, 8), refused(25, 0));
+        for locale in 0..count {
+            let [start, end] = [0, 1].map(|n| starts[locale as usize + n]);
+            assert_eq!(find_element(&package, 1, 2, 9, locale), Ok(start..end));
+        }
+        for locale in [count, count + 1, 256, 65_536, u32::MAX] {
+            assert_eq!(find_element(&package, 1, 2, 9, locale), refused(26, 0));
+        }
+    }
 }
 
 #[test]
@@ -269,9 +298,12 @@ fn required_versions() {
     assert_eq!(required_version(&of(&[names.clone()]), b"glass"), b"");
     let fewer = Entry::new(1050, 8, &[b"1.0\0", b"2\0", b"3\0"]);
     assert_eq!(required_version(&of(&[names, fewer]), b"glass"), b"");
-    let single = Entry::new(1049, 6, &[b"glass\0"]);
     let version = Entry::new(1050, 8, &[b"1.0\0"]);
-    assert_eq!(required_version(&of(&[single, version]), b"glass"), b"");
+    for ty in [6, 9] {
+        let other = Entry::new(1049, ty, &[b"glass\0"]);
+        let package = of(&[other, version.clone()]);
+        assert_eq!(required_version(&package, b"glass"), b"");
+    }
 }
 
 #[test]

@@ -1,8 +1,8 @@
 //! The writer: a package from a name and two lists of entries (checks 32 to 34).
 
 use super::{
-    be32, check, elements, Checked, Elements, Record, HEADER_RECORD_SIZE, INDEX_RECORD_SIZE, INT32,
-    LEAD_SIZE, MAX_NINDEX, MAX_PACKAGE,
+    be32, check, elements, Checked, Elements, Part, Record, HEADER_RECORD_SIZE, INDEX_RECORD_SIZE,
+    INT32, LEAD_SIZE, MAX_NINDEX, MAX_PACKAGE,
 };
 
 /// Bytes of an entry in a list: tag, type, count, size of its data.
@@ -30,10 +30,10 @@ struct Layout<'a> {
     hsize: usize,
 }
 
-/// Type and count are lawful, and the data is exactly what they say.
-fn check_entry(record: &Record, data: &[u8]) -> Checked<()> {
+/// Type and count are lawful there, and the data is exactly what they say.
+fn check_entry(record: &Record, part: Part, data: &[u8]) -> Checked<()> {
     check(32, elements(record.ty).is_some(), 0)?;
-    check(32, record.count_is_right(), 0)?;
+    check(32, record.count_is_right(part), 0)?;
     let count = record.count as usize;
     let right = match elements(record.ty) {
         Some(Elements::Sized(size)) => data.len() == size * count,
@@ -60,7 +60,7 @@ impl<'a> Layout<'a> {
     }
 
     /// Puts a list's entries behind those that are there, which count as its own.
-    fn put_list(&mut self, list: List<'a>) -> Checked<()> {
+    fn put_list(&mut self, list: List<'a>, part: Part) -> Checked<()> {
         check(32, list.entries.len() % ENTRY_SIZE == 0, 0)?;
         let nindex = self.entries.len() + list.entries.len() / ENTRY_SIZE;
         check(32, (1..=MAX_NINDEX).contains(&nindex), 0)?;
@@ -78,7 +78,7 @@ impl<'a> Layout<'a> {
                 offset: 0,
                 count: be32(numbers, 8),
             };
-            check_entry(&record, data)?;
+            check_entry(&record, part, data)?;
             let repeats = |(earlier, _): &(Record, _)| earlier.tag == record.tag;
             check(32, !self.entries.iter().any(repeats), 0)?;
             self.put(record, data);
@@ -123,12 +123,12 @@ pub fn write(name: &[u8], signature: List, header: List, buffer: &mut [u8]) -> C
     check(32, (1..=MAX_NAME).contains(&name.len()), 0)?;
     check(32, !name.contains(&0), 0)?;
     let mut second = Layout::default();
-    second.put_list(header)?;
+    second.put_list(header, Part::Header)?;
     // From H to the end there is the header alone.
     let size = (second.size() as u32).to_be_bytes();
     let mut first = Layout::default();
     first.put(SIGSIZE, &size);
-    first.put_list(signature)?;
+    first.put_list(signature, Part::Signature)?;
 
     let first_end = LEAD_SIZE + first.size();
     let header_start = first_end.next_multiple_of(8);

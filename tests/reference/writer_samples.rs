@@ -146,7 +146,7 @@ fn data_in_list_order() {
 #[test]
 fn read_back() {
     let signature = [bin(1004, &[9; 16]), strings(1010, 6, &["x"])];
-    let header = [char(3), words(1000, &[1]), strings(2, 9, &["ab"])];
+    let header = [char(3), words(1000, &[1]), strings(2, 9, &["ab", "", "c"])];
     let (answer, buffer) = written(b"book", &signature, &header, ROOM);
     let package = &buffer[..answer.unwrap() as usize];
     let opened = sound(package).unwrap();
@@ -200,7 +200,7 @@ fn entries() {
         with(7, 0, b""),
         with(8, 0, b""),
         with(6, 2, b"a\0b\0"),
-        with(9, 2, b"a\0b\0"),
+        with(9, 0, b""),
         // Not what type and count say.
         with(7, 2, b"x"),
         with(7, 1, b"xx"),
@@ -216,6 +216,9 @@ fn entries() {
         with(6, 1, b"x\0\0"),
         with(8, 2, b"x\0"),
         with(8, 2, b"x\0y"),
+        with(9, 2, b"x\0"),
+        with(9, 2, b"x\0y"),
+        with(9, 1, b"x\0y\0"),
         with(8, 1, b"x\0y\0"),
         with(8, u32::MAX, b"\0\0"),
     ];
@@ -224,6 +227,15 @@ fn entries() {
         is_32(&[item.clone()], &[char(1)]);
         is_32(&[], &[char(1), item.clone(), char(2)]);
     }
+    // Several strings of type 9: in the header only.
+    for count in [2, 3, 5] {
+        let several = with(9, count, &b"x\0".repeat(count as usize));
+        is_32(&[several.clone()], &[char(1)]);
+        let (answer, _) = written(b"b", &[], &[several], ROOM);
+        assert_eq!(answer, Ok(168 + 2 * count));
+    }
+    let (answer, _) = written(b"b", &[with(9, 1, b"x\0")], &[char(1)], ROOM);
+    assert_eq!(answer, Ok(185));
     // Repeated tags; those of the other structure don't count.
     is_32(&[], &[char(1), char(2), char(1)]);
     is_32(&[char(1), char(1)], &[char(1)]);

@@ -3,12 +3,13 @@
 use super::books::Book;
 use crate::content::*;
 use crate::lines::{self, Line};
-use crate::maker::size_of;
+use crate::maker::{is_single, size_of};
 use crate::random::Random;
 use crate::shapes::{free_lead, LAWFUL};
 
 /// How often things occur in a content.
 struct Plan {
+    locales: usize,
     files: usize,
     directories: usize,
     /// Provides, requires, conflicts, obsoletes, changes: 0 where absent.
@@ -23,6 +24,7 @@ impl Plan {
         let most = if random.one_in(20) { 70 } else { 5 };
         let mut some = |least| random.below(most + 1).max(least);
         Plan {
+            locales: some(1),
             files: some(1),
             directories: some(1),
             led: [some(1), some(1), some(0), some(0), some(0)],
@@ -34,6 +36,8 @@ impl Plan {
     /// A header line's count; 0 where it is absent.
     fn count(&self, random: &mut Random, line: &Line) -> usize {
         match line.tag {
+            100 => self.locales,
+            1004 | 1005 | 1016 => 1 + random.below(self.locales),
             1027 if self.old_names => self.files,
             1116 | 1117 if !self.old_names => self.files,
             1118 if !self.old_names => self.directories,
@@ -53,7 +57,7 @@ impl Plan {
     }
 }
 
-/// A count that the line takes.
+/// A count that the line takes, whatever the locales.
 pub fn any_count(random: &mut Random, line: &Line) -> usize {
     match line.count {
         Some(count) => count as usize,
@@ -103,10 +107,26 @@ pub fn right_item(random: &mut Random, line: &Line, count: usize, directories: u
 
 /// Tags that have no line: anything lawful may stand there.
 #[rustfmt::skip]
-const NO_LINE: [u32; 24] = [
+pub const NO_LINE: [u32; 24] = [
     0, 1, 61, 64, 99, 101, 269, 273, 999, 1003, 1008, 1013, 1029, 1031, 1038, 1119, 1133,
     5000, 20_000, 20_003, 65_536 + 1000, 1 << 31, (1 << 31) + 20_001, u32::MAX,
 ];
+
+/// A right count for a tag that has no line.
+fn free_count(random: &mut Random, content: &Content, structure: usize, ty: u32) -> usize {
+    match ty {
+        _ if is_single(structure, ty) => 1,
+        9 => 1 + random.below(locales(content)),
+        _ => 1 + random.below(4),
+    }
+}
+
+/// How many locales a content has.
+pub fn locales(content: &Content) -> usize {
+    content
+        .get(HEADER, 100)
+        .map_or(0, |item| item.count as usize)
+}
 
 /// Adds lawful entries under tags that have no line.
 pub fn add_free(random: &mut Random, content: &mut Content, structure: usize, count: usize) {
@@ -118,10 +138,7 @@ pub fn add_free(random: &mut Random, content: &mut Content, structure: usize, co
             _ => random.pick(&NO_LINE),
         };
         let ty = random.pick(&LAWFUL);
-        let count = match ty {
-            6 | 9 => 1,
-            _ => 1 + random.below(4),
-        };
+        let count = free_count(random, content, structure, ty);
         let item = item(random, tag, ty, count);
         content.put(structure, item);
     }
@@ -176,7 +193,11 @@ pub fn fill(random: &mut Random, content: &mut Content, structure: usize, record
     let mut tag = 30_000;
     while content.items[structure].len() < records {
         let ty = random.pick(&LAWFUL);
-        content.items[structure].push(item(random, tag, ty, 1));
+        let count = match ty {
+            9 => free_count(random, content, structure, ty),
+            _ => 1,
+        };
+        content.items[structure].push(item(random, tag, ty, count));
         tag += 1 + random.below(3) as u32;
     }
 }

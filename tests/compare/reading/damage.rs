@@ -1,11 +1,12 @@
 //! One damage for each of checks 14 to 18 and 23 and each place, with the answer
 //! it must get.
 
-use super::accepted::{any_count, item, right_item};
+use super::accepted::{any_count, item, locales, right_item, NO_LINE};
 use super::books::Book;
 use super::desk::Outcome;
 use crate::content::*;
 use crate::lines::{self, Line};
+use crate::maker::is_single;
 use crate::random::Random;
 use crate::shapes::LAWFUL;
 
@@ -23,6 +24,8 @@ pub struct Damage {
     order: (u32, u32),
     number: u32,
     place: u32,
+    /// Where not empty: the place is the one that comes first in the index.
+    places: Vec<u32>,
     /// Edition 1 has no such rule.
     only_edition_2: bool,
     edits: Vec<Edit>,
@@ -39,17 +42,34 @@ impl Damage {
         }
     }
 
+    /// Number and place, once all damages are done to the content.
+    fn refusal(&self, content: &Content) -> (u32, u32) {
+        if self.places.is_empty() {
+            return (self.number, self.place);
+        }
+        let header = content.package().header;
+        let mut tags = header.records.iter().map(|record| record[0]);
+        let first = tags.find(|tag| self.places.contains(tag));
+        (self.number, first.expect("one of the places"))
+    }
+
     fn tags(&self) -> impl Iterator<Item = (usize, u32)> + '_ {
-        self.edits.iter().map(|edit| match edit {
+        let edited = self.edits.iter().map(|edit| match edit {
             Edit::Remove(structure, tag) => (*structure, *tag),
             Edit::Put(structure, item) => (*structure, item.tag),
             Edit::Size(_) => (SIGNATURE, 1000),
-        })
+        });
+        edited.chain(self.places.iter().map(|&tag| (HEADER, tag)))
     }
 
     /// Checks 14 and 15 have a rule for each tag.
     pub fn is_of_a_line(&self) -> bool {
         self.order.0 == 14
+    }
+
+    /// More strings than locales.
+    pub fn is_of_locales(&self) -> bool {
+        !self.places.is_empty()
     }
 
     /// Two damages that leave each other alone: other tags, and another rule.
@@ -74,13 +94,14 @@ pub fn by_rule(mut damages: Vec<Damage>) -> Vec<Vec<Damage>> {
     rules
 }
 
-/// What a package with this book and these damages must give: the first check decides.
-pub fn outcome(book: &Book, damages: &[&Damage]) -> [Outcome; 2] {
+/// What this content, with this book and these damages done, must give: the first check
+/// decides.
+pub fn outcome(book: &Book, content: &Content, damages: &[&Damage]) -> [Outcome; 2] {
     let at = |edition: usize| {
         let seen = damages
             .iter()
             .filter(|damage| edition == 1 || !damage.only_edition_2)
-            .map(|damage| (damage.order, (damage.number, damage.place)));
+            .map(|damage| (damage.order, damage.refusal(content)));
         let first = match &book.known[edition] {
             Ok(_) => seen.min(),
             Err(refusal) => seen.chain([((20, 0), *refusal)]).min(),
@@ -113,7 +134,21 @@ impl List<'_> {
             order,
             number,
             place,
+            places: Vec::new(),
             only_edition_2: place == 20_002,
+            edits,
+        });
+    }
+
+    /// The last group: these tags have more strings than there are locales.
+    fn locales(&mut self, what: &'static str, places: Vec<u32>, edits: Vec<Edit>) {
+        self.damages.push(Damage {
+            what,
+            order: (17, 8 + LED.len() as u32),
+            number: 17,
+            place: 0,
+            places,
+            only_edition_2: false,
             edits,
         });
     }
@@ -152,6 +187,7 @@ pub fn all(content: &Content, random: &mut Random) -> Vec<Damage> {
     for (group, (leader, others)) in LED.into_iter().enumerate() {
         led(&mut list, random, 8 + group as u32, leader, others);
     }
+    translations(&mut list, random);
     texts(&mut list, random);
     weight(&mut list, random);
     list.damages
@@ -181,14 +217,15 @@ fn of_line(list: &mut List, random: &mut Random, structure: usize, line: &Line) 
     };
     for ty in LAWFUL {
         if ty != line.ty {
-            let count = match ty {
-                6 | 9 => 1,
-                _ => any_count(random, line),
+            // Without its line, in edition 1, 20002 may be translated.
+            let count = match is_single(structure, ty) || (tag, ty) == (20_002, 9) {
+                true => 1,
+                false => any_count(random, line),
             };
             wrong("other type", random, ty, count);
         }
     }
-    // Another count of type 6 or 9 is check 10.
+    // Another count of type 6 is check 10.
     if let (Some(exact), 4 | 7) = (line.count, line.ty) {
         let exact = exact as usize;
         for count in [exact - 1, exact + 1, 2 * exact, 2 * exact + 1, 256 + exact] {
@@ -375,6 +412,47 @@ fn led(list: &mut List, random: &mut Random, group: u32, leader: u32, others: [u
         counts("led: versions missing", random, versions, [n, m, 0]);
         counts("led: flags missing", random, flags, [n, 0, m]);
         counts("led: leader missing", random, leader, [0, n, m]);
+    }
+}
+
+/// Translated strings that have a line.
+pub const TRANSLATED: [u32; 3] = [1004, 1005, 1016];
+
+/// More strings than locales: of one tag, of several, of those that a tag 100 of fewer
+/// strings leaves without a locale.
+fn translations(list: &mut List, random: &mut Random) {
+    let locales = locales(list.content);
+    let count = |random: &mut Random| locales + random.pick(&[1, 1, 2, 5, 256]);
+    let put = |random: &mut Random, tag, count| Edit::Put(HEADER, item(random, tag, 9, count));
+    for tag in TRANSLATED.into_iter().chain(NO_LINE) {
+        let many = count(random);
+        let edits = vec![put(random, tag, many)];
+        list.locales("translations", vec![tag], edits);
+    }
+    for _ in 0..6 {
+        let mut tags: Vec<u32> = TRANSLATED.into_iter().chain(NO_LINE).collect();
+        random.shuffle(&mut tags);
+        tags.truncate(2 + random.below(4));
+        let wrong = 2 + random.below(tags.len() - 1);
+        let edit = |(n, &tag): (usize, &u32)| {
+            let count = match n < wrong {
+                true => count(random),
+                false => locales,
+            };
+            put(random, tag, count)
+        };
+        let edits = tags.iter().enumerate().map(edit).collect();
+        tags.truncate(wrong);
+        list.locales("translations of several", tags, edits);
+    }
+    for fewer in 1..locales {
+        let many = |item: &&Item| item.ty == 9 && item.count > fewer as u32;
+        let all = &list.content.items[HEADER];
+        let tags: Vec<u32> = all.iter().filter(many).map(|item| item.tag).collect();
+        if !tags.is_empty() {
+            let edits = vec![Edit::Put(HEADER, item(random, 100, 8, fewer))];
+            list.locales("fewer locales", tags, edits);
+        }
     }
 }
 

@@ -6,6 +6,7 @@ use super::accepted::{content, fill};
 use super::books::{dose, length, right_dose, Book};
 use super::damage;
 use super::desk::{Desk, Outcome};
+use super::locales::locales;
 use crate::content::{bin, words, Content, HEADER, SIGNATURE};
 use crate::damage as structures;
 use crate::families::change;
@@ -15,7 +16,7 @@ use crate::random::Random;
 use crate::real;
 
 /// All families with their names, in the order in which they run.
-pub const ALL: [(&str, fn(&mut Desk, &mut Random)); 16] = [
+pub const ALL: [(&str, fn(&mut Desk, &mut Random)); 17] = [
     ("accepted packages", accepted),
     ("accepted packages of many records", many_records),
     ("sizes of accepted packages", sizes),
@@ -32,6 +33,7 @@ pub const ALL: [(&str, fn(&mut Desk, &mut Random)); 16] = [
     ("random books", any_books),
     ("changed bytes", changed_bytes),
     ("extreme words", extreme_fields),
+    ("locales", locales),
 ];
 
 #[rustfmt::skip]
@@ -47,7 +49,7 @@ fn any(random: &mut Random) -> (Content, Book) {
 }
 
 /// Both editions refuse alike.
-fn refused(number: u32, place: usize) -> [Outcome; 2] {
+pub fn refused(number: u32, place: usize) -> [Outcome; 2] {
     let place = place as u32;
     [Err((number, place)), Err((number, place))]
 }
@@ -74,7 +76,7 @@ fn many_records(desk: &mut Desk, random: &mut Random) {
                 damage.apply(&mut content);
                 // Where it adds records, 512 may be passed.
                 if content.items.iter().all(|items| items.len() <= 512) {
-                    let known = damage::outcome(&book, &[damage]);
+                    let known = damage::outcome(&book, &content, &[damage]);
                     desk.case(random, &content.bytes(), &known);
                 }
             }
@@ -172,7 +174,7 @@ fn each_damage(desk: &mut Desk, random: &mut Random) {
         for damage in damage::all(&right, random) {
             let mut content = right.clone();
             damage.apply(&mut content);
-            let known = damage::outcome(&book, &[&damage]);
+            let known = damage::outcome(&book, &content, &[&damage]);
             desk.note = damage.what;
             desk.case(random, &content.bytes(), &known);
         }
@@ -205,7 +207,7 @@ fn pairs_of_damages(desk: &mut Desk, random: &mut Random) {
                     let mut content = right.clone();
                     one.apply(&mut content);
                     other.apply(&mut content);
-                    let known = damage::outcome(&book, &[one, other]);
+                    let known = damage::outcome(&book, &content, &[one, other]);
                     desk.note = one.what;
                     desk.case(random, &content.bytes(), &known);
                 }
@@ -476,7 +478,6 @@ pub fn other_writers(desk: &mut Desk, random: &mut Random, data: &Path) {
     for file in real::files(data) {
         let name = file.file_name().and_then(|name| name.to_str()).unwrap();
         let known = match name {
-            "rb-i18n.rpm" => refused(10, 4600),
             name if name.starts_with("rb-") => refused(14, 20_001),
             _ => [Ok(vec![[27, 1250]]), Ok(vec![[27, 1250]])],
         };

@@ -6,6 +6,7 @@ mod damage;
 mod demand3;
 mod desk;
 mod families;
+mod locales;
 
 use std::path::Path;
 

@@ -2,16 +2,16 @@
 
 use super::desk::{Desk, Outcome};
 use super::lists::*;
-use super::round_trip::round_trips;
+use super::round_trip::{round_trip, round_trips};
 use super::wrong;
 use crate::fence::ROOM;
-use crate::maker::size_of;
+use crate::maker::{is_single, size_of};
 use crate::questions::EXTREMES;
 use crate::random::Random;
 use crate::shapes::LAWFUL;
 
 /// All families with their names, in the order in which they run.
-pub const ALL: [(&str, fn(&mut Desk, &mut Random)); 14] = [
+pub const ALL: [(&str, fn(&mut Desk, &mut Random)); 15] = [
     ("written packages", written),
     ("types and alignments", alignments),
     ("numbers of entries", many_entries),
@@ -26,6 +26,7 @@ pub const ALL: [(&str, fn(&mut Desk, &mut Random)); 14] = [
     ("random lists", any_lists),
     ("random bytes as lists", noise),
     ("round trips", round_trips),
+    ("translated strings to write", translated),
 ];
 
 const LIMIT: usize = 65_536;
@@ -57,8 +58,8 @@ fn alignments(desk: &mut Desk, random: &mut Random) {
                     if before > 0 {
                         list.push(Entry::bin(1, random.bytes(before)));
                     }
-                    list.push(entry(random, 2, Some(ty), 5));
-                    list.push(entry(random, 3, Some(behind), 3));
+                    list.push(entry(random, structure, 2, Some(ty), 5));
+                    list.push(entry(random, structure, 3, Some(behind), 3));
                     lists.entries[structure] = list;
                     right(desk, random, &lists);
                 }
@@ -100,13 +101,13 @@ fn lists_of_size(random: &mut Random, structure: usize, ty: u32, size: usize) ->
     let most = size - lists.package().len() - 200;
     let data = match (ty, size_of(ty)) {
         (_, Some(each)) => random.bytes(most / each * each),
-        (8, None) => b"xy\0".repeat(most / 3),
-        (_, None) => [vec![b'x'; most - 1], vec![0]].concat(),
+        (_, None) if is_single(structure, ty) => [vec![b'x'; most - 1], vec![0]].concat(),
+        (_, None) => b"xy\0".repeat(most / 3),
     };
     let count = match (ty, size_of(ty)) {
         (_, Some(each)) => data.len() / each,
-        (8, None) => data.len() / 3,
-        (_, None) => 1,
+        (_, None) if is_single(structure, ty) => 1,
+        (_, None) => data.len() / 3,
     };
     let large = Entry::new(20_001, ty, count as u32, data);
     let at = random.below(lists.entries[structure].len() + 1);
@@ -258,7 +259,7 @@ fn repeated_tags(desk: &mut Desk, random: &mut Random) {
             let count = count - usize::from(structure == SIGNATURE && count == 512);
             let mut right_lists = lists(random, [1, 1], 1);
             right_lists.entries[structure] = (0..count as u32)
-                .map(|n| entry(random, 2000 + n, Some(7), 1))
+                .map(|n| entry(random, structure, 2000 + n, Some(7), 1))
                 .collect();
             right(desk, random, &right_lists);
             for round in 0..60 {
@@ -286,7 +287,7 @@ fn repeated_tags(desk: &mut Desk, random: &mut Random) {
     for _ in 0..50 {
         let mut lists = small(random);
         lists.entries[HEADER] = lists.entries[SIGNATURE].clone();
-        lists.entries[HEADER].push(entry(random, 1000, None, 2));
+        lists.entries[HEADER].push(entry(random, HEADER, 1000, None, 2));
         right(desk, random, &lists);
     }
 }
@@ -361,13 +362,14 @@ fn any_lists(desk: &mut Desk, random: &mut Random) {
         let mut lists = small(random);
         for structure in [SIGNATURE, HEADER] {
             let count = random.below(4) + usize::from(structure == HEADER);
-            lists.entries[structure] = (0..count).map(|_| any_entry(random)).collect();
+            let entries = (0..count).map(|_| any_entry(random, structure));
+            lists.entries[structure] = entries.collect();
         }
         desk.unknown(random, &lists.lent());
     }
 }
 
-fn any_entry(random: &mut Random) -> Entry {
+fn any_entry(random: &mut Random, structure: usize) -> Entry {
     let tag = match random.below(40) {
         0 => 1000,
         _ => 990 + random.below(20) as u32,
@@ -376,9 +378,9 @@ fn any_entry(random: &mut Random) -> Entry {
         0 => random.below(12) as u32,
         _ => random.pick(&LAWFUL),
     };
-    let count = match ty {
-        6 | 9 => 1,
-        _ => 1 + random.below(3) as u32,
+    let count = match is_single(structure, ty) && !random.one_in(10) {
+        true => 1,
+        false => 1 + random.below(3) as u32,
     };
     let mut entry = Entry::new(tag, ty, count, some_data(random, ty, count as usize));
     match random.below(30) {
@@ -405,5 +407,34 @@ fn noise(desk: &mut Desk, random: &mut Random) {
             }
         }
         desk.unknown(random, &lent);
+    }
+}
+
+/// Type 9 of each count in each list: several strings in the header, one in the signature.
+fn translated(desk: &mut Desk, random: &mut Random) {
+    for structure in [SIGNATURE, HEADER] {
+        for count in (0..=5).chain([255, 256, 257, 1000]) {
+            for at in [0, 1, 3] {
+                let mut lists = lists(random, [3, 3], 3);
+                let tag = random.pick(&[100, 1004, 1005, 1016, 30_000, u32::MAX]);
+                let data = some_data(random, 9, count);
+                for list in &mut lists.entries {
+                    list.retain(|entry| entry.tag != tag);
+                }
+                let list = &mut lists.entries[structure];
+                let new = Entry::new(tag, 9, count as u32, data);
+                list.insert(at.min(list.len()), new);
+                let known = match count {
+                    0 => Err(wrong::COUNT_0),
+                    1 => Ok(lists.package()),
+                    _ if structure == SIGNATURE => Err(wrong::TRANSLATIONS_IN_SIGNATURE),
+                    _ => Ok(lists.package()),
+                };
+                desk.case(random, &lists.lent(), &known);
+                if known.is_ok() {
+                    round_trip(desk, random, &lists);
+                }
+            }
+        }
     }
 }

@@ -1,7 +1,7 @@
 //! Lists of entries, right ones and their parts as they are lent, and the package that
 //! must be written from them.
 
-use crate::maker::{lead, size_of, Package, Structure, S};
+use crate::maker::{is_single, lead, size_of, Package, Structure, S};
 use crate::random::Random;
 use crate::shapes::LAWFUL;
 
@@ -167,12 +167,18 @@ fn string(random: &mut Random) -> Vec<u8> {
     string
 }
 
-/// A right entry of any type, or of this one.
-pub fn entry(random: &mut Random, tag: u32, ty: Option<u32>, most: usize) -> Entry {
+/// An entry of any type, or of this one, that is right in the structure.
+pub fn entry(
+    random: &mut Random,
+    structure: usize,
+    tag: u32,
+    ty: Option<u32>,
+    most: usize,
+) -> Entry {
     let ty = ty.unwrap_or_else(|| random.pick(&LAWFUL));
-    let count = match ty {
-        6 | 9 => 1,
-        _ => 1 + random.below(most),
+    let count = match is_single(structure, ty) {
+        true => 1,
+        false => 1 + random.below(most),
     };
     Entry::new(tag, ty, count as u32, some_data(random, ty, count))
 }
@@ -196,7 +202,7 @@ fn tags(random: &mut Random, structure: usize, count: usize) -> Vec<u32> {
 pub fn list(random: &mut Random, structure: usize, count: usize, most: usize) -> Vec<Entry> {
     let tags = tags(random, structure, count);
     tags.into_iter()
-        .map(|tag| entry(random, tag, None, most))
+        .map(|tag| entry(random, structure, tag, None, most))
         .collect()
 }
 

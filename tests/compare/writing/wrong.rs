@@ -1,14 +1,15 @@
 //! Lists and names that are wrong in one way, each with its reason for 32.
 
 use super::lists::{data, numbers, Entry, Lent, Lists, HEADER, SIGNATURE};
-use crate::maker::size_of;
+use crate::maker::{is_single, size_of};
 use crate::random::Random;
 
 /// Every reason for 32; each must come up.
-pub const REASONS: [&str; 20] = [
+pub const REASONS: [&str; 21] = [
     TYPE,
     COUNT_0,
     COUNT_NOT_1,
+    TRANSLATIONS_IN_SIGNATURE,
     REPEATED,
     BYTES_MISSING,
     BYTES_OVER,
@@ -30,7 +31,8 @@ pub const REASONS: [&str; 20] = [
 
 pub const TYPE: &str = "type (check 9)";
 pub const COUNT_0: &str = "count 0 (check 10)";
-pub const COUNT_NOT_1: &str = "count not 1 for 6 or 9 (check 10)";
+pub const COUNT_NOT_1: &str = "count not 1 for 6 (check 10)";
+pub const TRANSLATIONS_IN_SIGNATURE: &str = "count not 1 for 9 in the signature (check 10)";
 pub const REPEATED: &str = "tag of an earlier entry (check 13)";
 pub const BYTES_MISSING: &str = "fewer bytes than size times count";
 pub const BYTES_OVER: &str = "more bytes than size times count";
@@ -176,6 +178,9 @@ fn numbers_data(makes: &mut Makes, at: usize, count: u32, data: &[u8], size: usi
     }
 }
 
+/// Types that have one string, and what they are refused for.
+const SINGLE: [(u32, &str); 2] = [(6, COUNT_NOT_1), (9, TRANSLATIONS_IN_SIGNATURE)];
+
 /// Counts and data of an entry of strings that don't go together.
 fn strings_data(makes: &mut Makes, at: usize, ty: u32, count: u32, data: &[u8]) {
     let last = data.len() - 1;
@@ -189,17 +194,24 @@ fn strings_data(makes: &mut Makes, at: usize, ty: u32, count: u32, data: &[u8]) 
     if last > 0 && data[last - 1] != 0 {
         makes.with_data(NO_LAST_ZERO, at, count, &data[..last]);
     }
-    if ty == 8 {
+    if !is_single(makes.structure, ty) {
         let many = [count + 1, count + 256, count + 65_536, 1 << 31, u32::MAX];
         makes.counts(STRINGS_MISSING, at, &many);
         if count > 1 {
             makes.counts(STRINGS_OVER, at, &[count - 1]);
             let first = data.iter().position(|&byte| byte == 0).unwrap();
             makes.with_data(STRINGS_MISSING, at, count, &data[first + 1..]);
+            // The same strings, in a type that has one.
+            for (single, reason) in SINGLE {
+                if is_single(makes.structure, single) {
+                    makes.entry(reason, at, |entry| entry.ty = single);
+                }
+            }
         }
     } else {
-        makes.counts(COUNT_NOT_1, at, &[2, 257, 65_537, (1 << 31) + 1, u32::MAX]);
-        makes.with_data(COUNT_NOT_1, at, 2, &[data, b"\0"].concat());
+        let (_, reason) = SINGLE[usize::from(ty == 9)];
+        makes.counts(reason, at, &[2, 257, 65_537, (1 << 31) + 1, u32::MAX]);
+        makes.with_data(reason, at, 2, &[data, b"\0"].concat());
     }
 }
 
