@@ -189,8 +189,8 @@ static const struct refusal refusals[] = {
             "0",
             "a loop that has come to the entry's end; a text that has no translation "
             "for that locale",
-            "Stop there: the lowest number that gives 26 is the entry's count. In place "
-            "of a missing translation show element 0."},
+            "Stop there: the lowest number that gives 26 is the entry's count. rpm shows "
+            "element 0 in place of a missing translation."},
     [32] = {NOWHERE,
             "writing: the name, a list or an entry is none that can be written",
             "0",

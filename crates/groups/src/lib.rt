@@ -1,4 +1,4 @@
-// Groups of tags, those of the files among them: check 17.
+// Groups of tags, those of the files and the locales among them: check 17.
 // All but the last group ask the records that were gathered.
 ghost use mathlib.Core.Path.{_≡_};
 ghost use mathlib.Core.Bool.{_||_};

@@ -1,4 +1,4 @@
-// Document 01's samples: those marked P proved, the rest run.
+// Samples of documents 01 and 02: those marked P and others proved, the rest run.
 // The program looks up or reads each package of data/, and writes the answer as `NUMBER at PLACE`.
 use format::Answer;
 use libc::STDOUT_FILENO;
