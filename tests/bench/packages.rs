@@ -1,6 +1,7 @@
 //! Accepted packages of any number of header records.
 
 use reference::catalogue::{self, Count, Line, Status};
+use reference::reading;
 
 use crate::content::*;
 use crate::maker::size_of;
@@ -39,6 +40,7 @@ pub const USUAL: Plan = Plan {
     book: true,
 };
 
+const LOCALES: usize = 1;
 const DIRECTORIES: usize = 3;
 const PROVIDES: usize = 2;
 /// Conflicts, obsoletes and changes.
@@ -60,7 +62,8 @@ const OPTIONAL: [&[u32]; 22] = [
 pub fn free(position: usize) -> (u32, u32, usize) {
     let ty = [6, 4, 8, 7, 3, 9, 1, 2][position % 8];
     let count = match ty {
-        6 | 9 => 1,
+        6 => 1,
+        9 => LOCALES,
         _ => 1 + position % 4,
     };
     (10_000 + 7 * position as u32, ty, count)
@@ -73,7 +76,8 @@ fn count(plan: &Plan, line: &Line) -> usize {
         (_, 1028..=1045 | 1095..=1097 | 1116 | 1117) => plan.files,
         (_, 1048..=1050) => plan.requires,
         (_, 1047 | 1112 | 1113) => PROVIDES,
-        (_, 100) => 1,
+        (_, 100) => LOCALES,
+        _ if line.ty == 9 => LOCALES,
         (_, 1002 | 1005 | 1011 | 1012) => 152,
         _ => OTHERS,
     }
@@ -198,5 +202,7 @@ pub fn accepted(records: usize, order: Order, plan: &Plan) -> Vec<u8> {
             structure.records.rotate_right(1);
         }
     }
-    package.bytes()
+    let bytes = package.bytes();
+    assert_eq!(reading::read(2, &bytes, &mut [0; 8192]).is_ok(), plan.book);
+    bytes
 }
