@@ -18,7 +18,7 @@ use Rattle.files.specs.Files.{oldNamesRight, newNamesCheck, namesCheck}
 use Rattle.locales.specs.Locales.{localesCheck}
 use Rattle.locales.proofs.OrderLaws.{locales-pass}
 use Rattle.groups.specs.Groups.{ledGroups, groupsCheck}
-use Rattle.demands.specs.Lawful.{HasTag, WhereTagged, SameCount, Needs, Each, LawfulLocales, LawfulGroups}
+use Rattle.demands.specs.Lawful.{HasTag, WhereTagged, SameCount, Needs, Each, OldNames, NewNames, LawfulLocales, LawfulGroups}
 use Rattle.demands.proofs.PassIff.{check-iff, last-iff, both-iff, eqb-iff, choice-iff, unless-iff, not-iff}
 use Rattle.demands.proofs.TagLawful.{has-tag, lacks-tag}
 use Rattle.demands.proofs.FoundLawful.{Apart, count-rule, counted-iff, same-count-iff}
@@ -44,16 +44,6 @@ module _ (s : List ℕ) (header : Section) (apart : Apart s header) (leader : �
   counts-lawful (tag ∷ rest) = simp (both-iff, count-lawful, counts-lawful rest) Iff·rfl
 
 -- the names of the files, with the count of 1028
-abbrev OldNames : List ℕ → Section → Type 0
-OldNames s header =
-    (SameCount s header 1027 1028)
-    × (HasTag s header 1116 → ⊥) × (HasTag s header 1117 → ⊥) × (HasTag s header 1118 → ⊥)
-
-abbrev NewNames : List ℕ → Section → Type 0
-NewNames s header =
-    HasTag s header 1116 × HasTag s header 1117 × HasTag s header 1118
-    × SameCount s header 1116 1028 × SameCount s header 1117 1028
-
 module _ (s : List ℕ) (header : Section) (apart : Apart s header) (led : HasTag s header 1028) where
   old-lawful : HasTag s header 1027 → (oldNamesRight (taggedIn s header) (countIn (taggedIn s header) 1028) ≡ true) ↔ OldNames s header
   unfolding oldNamesRight

@@ -1,6 +1,6 @@
 -- Checks 5 to 13 of a structure are what the rules say of it: structure-lawful. The data of a record of a lawful one:
 -- entry-sound.
-use Prim.Native.Nat.{ℕ, zero, suc, _+_, _<_}
+use Prim.Native.Nat.{ℕ, _<_}
 use mathlib.Core.Path.{_≡_, refl, sym, ap, _∙_}
 use mathlib.Core.Logic.{_↔_, _≢_}
 use mathlib.Core.List.{List}
@@ -14,8 +14,9 @@ use Rattle.format.specs.declared.records.HeaderRecord.{HeaderRecord}
 use Rattle.format.specs.declared.verdict.Verdict.the-variants.{Pass}
 use Rattle.format.specs.Records.{headerRecordAt}
 use Rattle.format.proofs.VerdictLaws.{passed, inverted, both-pass}
+use Rattle.format.proofs.FirstLaws.{run-passes}
 use Rattle.entries.specs.Entries.{recordAt, entryCheck, recordCheck}
-use Rattle.structure.specs.Structure.{sectionAt, headerCheck, recordsFrom, structureCheck}
+use Rattle.structure.specs.Structure.{sectionAt, headerCheck, structureCheck}
 use Rattle.index.specs.Lookup.{entryAt}
 use Rattle.structure.specs.Sound.{SoundHeader, SoundEntry}
 use Rattle.structure.proofs.PassLaws.{structure-header, structure-record}
@@ -58,15 +59,6 @@ module _ (structure : Structure) (s : List ℕ) (section : Section) where
             sym (passed _ _ (k .0) (passed _ _ (k .1) (passed _ _ (k .2) (passed _ _ (k .3) (passed _ _ (ap not t) refl))))),
       )
 
-  -- records that pass one by one pass in a row
-  records-pass : (n i : ℕ) → ((k : ℕ) → k < n → recordCheck structure s section (i + k) ≡ Pass) → recordsFrom structure s section n i ≡ Pass
-  unfolding recordsFrom
-  records-pass zero i h = refl
-  records-pass (suc n) i h =
-      let v : i + 0 ≡ i = omega arith in
-      both-pass (rw v at (h 0 (omega arith)))
-      ∙ records-pass n (i + 1) (λ k l. let w : i + 1 + k ≡ i + suc k = omega arith in rw w (h (suc k) (omega arith)))
-
 module _ (structure : Structure) (s : List ℕ) (start : ℕ) where
   structure-rules : structureCheck structure s (length s) start ≡ Pass → LawfulStructure structure s start
   structure-rules h =
@@ -89,8 +81,7 @@ module _ (structure : Structure) (s : List ℕ) (start : ℕ) where
   unfolding structureCheck
   structure-passes h =
       both-pass (header-passes (length s) start (headerRecordAt s start) (h .header))
-      ∙ records-pass structure s (sectionAt s start) (sectionAt s start .nindex) 0
-      (λ k l. let v : 0 + k ≡ k = omega arith in rw v (record-passes h k l))
+      ∙ run-passes _ _ 0 .1 (λ k l m. record-passes h k (omega arith))
 
   pub structure-lawful : (structureCheck structure s (length s) start ≡ Pass) ↔ LawfulStructure structure s start
   structure-lawful = (structure-rules, structure-passes)

@@ -111,6 +111,18 @@ abbrev pub Each : {A : Type 0} → List A → (A → Type 0) → Type 0
 Each [] Rule = Unit
 Each (one ∷ rest) Rule = Rule one × Each rest Rule
 
+-- with N the count of 1028: if 1027 is present its count is N and none of 1116 to 1118 is present
+abbrev pub OldNames : List ℕ → Section → Type 0
+OldNames s header =
+    (SameCount s header 1027 1028)
+    × (HasTag s header 1116 → ⊥) × (HasTag s header 1117 → ⊥) × (HasTag s header 1118 → ⊥)
+
+-- otherwise those three are present and 1116 and 1117 have count N
+abbrev pub NewNames : List ℕ → Section → Type 0
+NewNames s header =
+    HasTag s header 1116 × HasTag s header 1117 × HasTag s header 1118
+    × SameCount s header 1116 1028 × SameCount s header 1117 1028
+
 -- every type 9 entry of the header has at most as many strings as tag 100
 abbrev pub LawfulLocales : List ℕ → Section → Type 0
 LawfulLocales s header =
@@ -128,14 +140,8 @@ pub record LawfulGroups (s : List ℕ) (signature header : Section) : Type 0 whe
   pub postRemove : Needs s header 1026 1088
   -- with N the count of 1028: each of these that is present has count N
   pub files : Each fileTags (λ (tag : ℕ). SameCount s header tag 1028)
-  -- if 1027 is present its count is N and none of 1116 to 1118 is present
-  pub oldNames : HasTag s header 1027
-      → (SameCount s header 1027 1028)
-      × (HasTag s header 1116 → ⊥) × (HasTag s header 1117 → ⊥) × (HasTag s header 1118 → ⊥)
-  -- otherwise those three are present and 1116 and 1117 have count N
-  pub newNames : (HasTag s header 1027 → ⊥)
-      → HasTag s header 1116 × HasTag s header 1117 × HasTag s header 1118
-      × SameCount s header 1116 1028 × SameCount s header 1117 1028
+  pub oldNames : HasTag s header 1027 → OldNames s header
+  pub newNames : (HasTag s header 1027 → ⊥) → NewNames s header
   -- the groups led by 1049 (1048, 1050), 1047 (1112, 1113), 1054 (1053, 1055), 1090 (1114, 1115) and 1081 (1080, 1082)
   pub requires : LawfulLed s header 1049 1048 1049 1050
   pub provides : LawfulLed s header 1047 1047 1112 1113

@@ -12,10 +12,12 @@ use Rattle.format.specs.declared.section.Structure.{Structure}
 use Rattle.format.specs.declared.verdict.Verdict.the-variants.{Pass}
 use Rattle.format.specs.Places.{recordPlace, storePlace, sectionEnd}
 use Rattle.format.specs.Records.{headerRecordAt}
+use Rattle.format.specs.Verdicts.{runFrom}
 use Rattle.format.proofs.VerdictLaws.{passed, both-pass}
+use Rattle.format.proofs.RunLaws as run
 use Rattle.repeats.specs.Repeats.{tagBefore}
 use Rattle.entries.specs.Entries.{recordCheck}
-use Rattle.structure.specs.Structure.{sectionOf, sectionAt, headerCheck, recordsFrom, recordsCheck, structureCheck}
+use Rattle.structure.specs.Structure.{sectionOf, sectionAt, headerCheck, recordsCheck, structureCheck}
 use Rattle.put.specs.Puts.{zeros}
 use Rattle.put.proofs.PutLaws.{length-four}
 use Rattle.lists.specs.Lists.{ListEntry}
@@ -43,15 +45,6 @@ store-room filled entry rest =
     let c = length-replicate {A = ℕ} (dataStart filled entry - filled) 0 in
     rw (store-step filled entry rest) (omega arith)
 
-pass-step : (structure : Structure) (p : List ℕ) (section : Section) (n i : ℕ) → recordCheck structure p section i ≡ Pass
-    → recordsFrom structure p section n (i + 1) ≡ Pass → recordsFrom structure p section (suc n) i ≡ Pass
-unfolding recordsFrom
-pass-step structure p section n i h k = both-pass h ∙ k
-
-pass-none : (structure : Structure) (p : List ℕ) (section : Section) (i : ℕ) → recordsFrom structure p section 0 i ≡ Pass
-unfolding recordsFrom
-pass-none structure p section i = refl
-
 reads-step : (p : List ℕ) (section : Section) (i : ℕ) (entry : ListEntry) (rest : List ListEntry) → Reads p section i entry
     → ReadsFrom p section (i + 1) rest → ReadsFrom p section i (entry ∷ rest)
 reads-step p section i entry rest h f zero l = let e : i + 0 ≡ i = omega arith in rw e h
@@ -65,8 +58,8 @@ module _ (structure : Structure) (p : List ℕ) (section : Section) (small : sec
       → Holds p (storePlace section + filled) (storeFrom filled entries)
       → filled + length (storeFrom filled entries) ≡ section .hsize
       → ((tag : ℕ) → tagBefore p section i tag ≡ tagIn tag seen)
-      → (recordsFrom structure p section (length entries) i ≡ Pass) × ReadsFrom p section i entries
-  records [] seen i filled h w hi hs r t = (pass-none structure p section i, λ k l. absurd (omega arith))
+      → (runFrom (recordCheck structure p section) (length entries) i ≡ Pass) × ReadsFrom p section i entries
+  records [] seen i filled h w hi hs r t = (run.none _ i, λ k l. absurd (omega arith))
   records (entry ∷ rest) seen i filled h w hi hs r t =
       let k = entries-right structure seen entry rest .0 h in
       let index = indexFrom (dataStop filled entry) rest in
@@ -80,7 +73,7 @@ module _ (structure : Structure) (p : List ℕ) (section : Section) (small : sec
       let later =
       records rest (entry .tag ∷ seen) (i + 1) (dataStop filled entry) (k .1) (λ j l. w (suc j) (omega arith))
       (one .indexed) (one .stored) (omega arith) (one .tags) in (
-        pass-step structure p section (length rest) i (one .passes) (later .0),
+        run.first _ (length rest) i ∙ both-pass (one .passes) ∙ later .0,
         reads-step p section i entry rest (one .reads) (later .1),
       )
 
@@ -142,7 +135,7 @@ module _ (structure : Structure) (p : List ℕ) (start : ℕ) (entries : List Li
       let e = index-length 0 entries in
       moved (omega arith) (rest (indexFrom 0 entries) (storeFrom 0 entries) behind-head)
 
-  both-read : (recordsFrom structure p section (length entries) 0 ≡ Pass) × ReadsFrom p section 0 entries
+  both-read : (runFrom (recordCheck structure p section) (length entries) 0 ≡ Pass) × ReadsFrom p section 0 entries
   both-read =
       records structure p section small entries [] 0 0 (right .each) wide
       (moved (omega arith) (front (indexFrom 0 entries) (storeFrom 0 entries) behind-head)) store (omega arith)

@@ -7,7 +7,7 @@ use Rattle.format.specs.Verdicts.{check, both, runFrom}
 use Rattle.entries.specs.Types.{elementSize}
 use Rattle.entries.specs.Entries.{countRight, dataEnd, entryCheck}
 use Rattle.repeats.specs.Repeats.{tagBefore}
-use Rattle.structure.specs.Structure.{headerCheck, recordsFrom, structureCheck}
+use Rattle.structure.specs.Structure.{headerCheck, structureCheck}
 use Rattle.locales.specs.Locales.{localeCheck}
 use Rattle.book.specs.Kinds.{isKnown}
 use Rattle.book.specs.Book.{placesFrom, doseLawful, recordCheck, recordsCheck, lengthCheck, bookCheck}
@@ -19,7 +19,7 @@ use Rattle.samples.specs.Samples.{samples, allRight}
 use Rattle.samples.specs.Written.{smallestRight}
 
 pub samples-right : T (allRight samples)
-unfolding be16At be32At sameBytes stringsFrom check both runFrom elementSize countRight dataEnd tagBefore entryCheck headerCheck recordsFrom
+unfolding be16At be32At sameBytes stringsFrom check both runFrom elementSize countRight dataEnd tagBefore entryCheck headerCheck
     structureCheck localeCheck isKnown placesFrom doseLawful recordCheck recordsCheck lengthCheck bookCheck dosesOf numbersOf
 samples-right = tt
 

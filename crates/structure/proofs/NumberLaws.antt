@@ -1,5 +1,5 @@
 -- The numbers of checks 5 to 13: structure-number; of a checked structure: checked-pass, checked-fail, checked-zero.
-use Prim.Native.Nat.{ℕ, zero, suc, _+_, _≤_}
+use Prim.Native.Nat.{ℕ, _≤_}
 use mathlib.Core.Path.{_≡_, refl}
 use mathlib.Core.List.{List}
 use native.Mathlib.Omega.{arith}
@@ -11,8 +11,9 @@ use Rattle.format.specs.declared.records.IndexRecord.{IndexRecord}
 use Rattle.format.specs.declared.verdict.Verdict.{Verdict}
 use Rattle.format.specs.declared.verdict.Verdict.the-variants.{Pass, Fail}
 use Rattle.format.proofs.NumberLaws.{pass-number, check-number, both-number}
+use Rattle.format.proofs.FirstLaws.{run-fails}
 use Rattle.entries.specs.Entries.{entryCheck}
-use Rattle.structure.specs.Structure.{sectionAt, headerCheck, recordsFrom, structureCheck}
+use Rattle.structure.specs.Structure.{sectionAt, headerCheck, structureCheck}
 use Rattle.structure.specs.Checked.{checkedAs, structureChecked, checkedNumber, checkedPlace}
 
 module _ {number place : ℕ} where
@@ -33,18 +34,12 @@ module _ {number place : ℕ} where
       next _ _ _ _ k (omega arith) λ k. next _ _ _ _ k (omega arith) λ k. next _ _ _ _ k (omega arith)
       λ k. next _ _ _ _ k (omega arith) λ k. next _ _ _ _ k (omega arith) (pass-number 5 13)
 
-  records-number : (structure : Structure) (s : List ℕ) (section : Section) (n i : ℕ) → recordsFrom structure s section n i ≡ Fail number place
-      → (5 ≤ number) × (number ≤ 13)
-  unfolding recordsFrom
-  records-number structure s section zero i k = pass-number 5 13 k
-  records-number structure s section (suc n) i k =
-      both-number 5 13 _ _ k (entry-number _ _ _ _ _ _ _) (records-number structure s section n (i + 1))
-
   -- checks 5 to 13
   pub structure-number : (structure : Structure) (s : List ℕ) (len start : ℕ) → structureCheck structure s len start ≡ Fail number place
       → (5 ≤ number) × (number ≤ 13)
   unfolding structureCheck
-  structure-number structure s len start k = both-number 5 13 _ _ k (header-number _ _ _) (records-number _ _ _ _ _)
+  structure-number structure s len start k =
+      both-number 5 13 _ _ k (header-number _ _ _) λ k. entry-number _ _ _ _ _ _ _ (run-fails _ _ 0 .0 k .fails)
 
 -- number and place of a checked structure are those of its verdict, 0 and 0 where all checks passed
 module _ (v : Verdict) (section : Section) where

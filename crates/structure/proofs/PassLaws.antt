@@ -1,5 +1,5 @@
 -- What a structure that passed its checks is, and the answer of the checks from what was read.
-use Prim.Native.Nat.{ℕ, zero, suc, _+_, _<_}
+use Prim.Native.Nat.{ℕ, _<_}
 use mathlib.Core.Path.{_≡_, refl, sym, ap, _∙_}
 use mathlib.Core.List.{List}
 use native.Mathlib.Omega.{arith}
@@ -12,9 +12,10 @@ use Rattle.format.specs.declared.verdict.Verdict.the-variants.{Pass, Fail}
 use Rattle.format.specs.Places.{storePlace}
 use Rattle.format.specs.Records.{headerRecordAt}
 use Rattle.format.proofs.VerdictLaws.{inverted, both-inverted, both-pass, both-fail}
+use Rattle.format.proofs.FirstLaws.{run-passes}
 use Rattle.structure.specs.declared.Checked.the-variants.{Sound, Unsound}
 use Rattle.entries.specs.Entries.{recordCheck}
-use Rattle.structure.specs.Structure.{sectionOf, sectionAt, headerCheck, recordsFrom, recordsCheck, structureCheck}
+use Rattle.structure.specs.Structure.{sectionOf, sectionAt, headerCheck, recordsCheck, structureCheck}
 use Rattle.structure.specs.Sound.{SoundHeader}
 use Rattle.structure.specs.Checked.{checkedAs, structureChecked}
 
@@ -63,19 +64,7 @@ pub store-small : (len start : ℕ) (h : HeaderRecord) {v : Verdict} → v ≡ h
     → storePlace (sectionOf start h) < 4294967296
 store-small len start h p k l = let b = header-sound len start h (sym p ∙ k) .fits in omega arith
 
--- each record of a run that passed has passed
-pub each : (structure : Structure) (s : List ℕ) (section : Section) (n i : ℕ) → recordsFrom structure s section n i ≡ Pass → (k : ℕ) → k < n
-    → recordCheck structure s section (i + k) ≡ Pass
-unfolding recordsFrom
-each structure s section zero i h k l = absurd (omega arith)
-each structure s section (suc n) i h zero l =
-    let e : i + 0 ≡ i = omega arith in
-    rw e (both-inverted _ _ h .0)
-each structure s section (suc n) i h (suc k) l =
-    let e : i + suc k ≡ i + 1 + k = omega arith in
-    rw e (each structure s section n (i + 1) (both-inverted _ _ h .1) k (omega arith))
-
--- and so has each record of a structure
+-- a structure that passed: its header record, and each of its records
 module _ (structure : Structure) (s : List ℕ) (len start : ℕ) (h : structureCheck structure s len start ≡ Pass) where
   pub structure-header : SoundHeader len start (headerRecordAt s start)
   unfolding structureCheck
@@ -83,9 +72,7 @@ module _ (structure : Structure) (s : List ℕ) (len start : ℕ) (h : structure
 
   pub structure-record : (k : ℕ) → k < sectionAt s start .nindex → recordCheck structure s (sectionAt s start) k ≡ Pass
   unfolding structureCheck
-  structure-record k l =
-      let e : 0 + k ≡ k = omega arith in
-      rw e at (each structure s (sectionAt s start) (sectionAt s start .nindex) 0 (both-inverted _ _ h .1) k l)
+  structure-record k l = run-passes _ _ 0 .0 (both-inverted _ _ h .1) k (omega arith) (omega arith)
 
 -- what a checked structure says of its verdict
 pub checked-sound : (v : Verdict) (section : Section) {section′ : Section} → checkedAs v section ≡ Sound section′

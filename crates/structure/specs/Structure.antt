@@ -1,6 +1,6 @@
 -- Document 01, "Header structure" and checks 5 to 13 for a structure, signature or header, at a place of the file. The package's length is a
 -- number of its own; bytes past the end of the list read as 0.
-use Prim.Native.Nat.{ℕ, zero, suc, _+_}
+use Prim.Native.Nat.{ℕ, _+_}
 use mathlib.Core.List.{List}
 use mathlib.Core.Bool.{Bool}
 use lib.Dec.{eqb, leb}
@@ -12,7 +12,7 @@ use Rattle.format.specs.declared.verdict.Verdict.the-variants.{Pass}
 use Rattle.format.specs.Sizes.{headerRecordSize, nindexLimit}
 use Rattle.format.specs.Places.{sectionEnd}
 use Rattle.format.specs.Records.{headerRecordAt}
-use Rattle.format.specs.Verdicts.{check, both}
+use Rattle.format.specs.Verdicts.{check, both, runFrom}
 use Rattle.entries.specs.Entries.{recordCheck}
 
 -- the structure that a header record describes
@@ -55,13 +55,9 @@ headerCheck len start h =
     (check (structureFits len start h) 8 (start + 12)
     Pass)))))
 
--- 9 to 13 for n index records from number i on, in order
-unfoldable pub recordsFrom : Structure → List ℕ → Section → ℕ → ℕ → Verdict
-recordsFrom structure s section zero i = Pass
-recordsFrom structure s section (suc n) i = both (recordCheck structure s section i) (recordsFrom structure s section n (i + 1))
-
+-- 9 to 13 for each index record, in order
 abbrev pub recordsCheck : Structure → List ℕ → Section → Verdict
-recordsCheck structure s section = recordsFrom structure s section (section .nindex) 0
+recordsCheck structure s section = runFrom (recordCheck structure s section) (section .nindex) 0
 
 -- 5 to 13
 unfoldable pub structureCheck : Structure → List ℕ → ℕ → ℕ → Verdict

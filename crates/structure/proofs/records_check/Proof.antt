@@ -1,7 +1,9 @@
 -- The records that are left decide. Assumes nothing.
 use Rattle.structure.proofs.RecordsLaws as laws
-use Rattle.structure.specs.Structure.{recordsFrom}
-use native.Mathlib.Nat.{sub-zero}
+use Rattle.structure.specs.Structure.{recordsCheck}
+use Rattle.entries.specs.Entries.{recordCheck}
+use Rattle.format.specs.Verdicts.{runFrom}
+use Rattle.format.proofs.RunLaws as run
 use mathlib.Core.Path.{_≡_}
 use Prim.Native.Nat.{_≤_, _-_}
 use borrow.Author.Needs.{needs}
@@ -9,13 +11,13 @@ use Rattle.structure.proofs.records_check.Statement.{statement}
 use Rattle.structure.proofs.records_check.Tie as tie
 
 abbrev Inv-loop : tie.InvT-loop
-Inv-loop structure s section n i₀ i = (i ≤ n) × (recordsFrom structure s section n 0 ≡ recordsFrom structure s section (n - i) i)
+Inv-loop structure s section n i₀ i = (i ≤ n) × (recordsCheck structure s section ≡ runFrom (recordCheck structure s section) (n - i) i)
 
 abbrev μ-loop : tie.MeasureT-loop
 μ-loop structure s section n i₀ i = n - i
 
 loop-holds : tie.Need-loop-holds Inv-loop μ-loop
-loop-holds c = (search needs, simp sub-zero)
+loop-holds c = (search needs, search run.begun)
 
 index-record-requires : tie.Need-index-record-requires Inv-loop μ-loop
 index-record-requires c κs = search needs
@@ -51,7 +53,7 @@ loop-again : tie.Need-loop-again Inv-loop μ-loop
 loop-again c = (search needs, search laws.turn)
 
 returns-2 : tie.Need-returns-2 Inv-loop μ-loop
-returns-2 c = search laws.spent
+returns-2 c = search run.spent
 
 pub records-check-spec : {M : Type 1} → statement M
 records-check-spec =
