@@ -329,13 +329,6 @@ static void add_number(struct list *list, uint32_t tag, uint32_t type, uint32_t 
 
 /* ---- The entries of a book ---- */
 
-/* station_write adds 1000. The digest, 1004, is left zero: the station compares none. */
-static void list_signature(struct list *signature)
-{
-    static const uint8_t digest[16];
-    add(signature, 1004, BIN, sizeof digest, digest, sizeof digest);
-}
-
 /* 100 to 1022: what the package is. */
 static void list_title(struct list *header, const struct recipe *recipe)
 {
@@ -436,8 +429,8 @@ static void print_refused(const char *call, uint32_t number, uint32_t place)
 /* Writes the recipe's package into the buffer; says why if it is refused. */
 static bool write_package(const struct recipe *recipe, uint8_t *package, size_t *length)
 {
+    /* The signature has 1000 and 1004 alone, which station_write puts there. */
     struct list signature = {0}, header = {0};
-    list_signature(&signature);
     list_header(&header, recipe);
     uint64_t answer = station_write((const uint8_t *)recipe->title, strlen(recipe->title),
                                     signature.entries, signature.entries_length,

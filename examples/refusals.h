@@ -20,7 +20,7 @@ enum place {
     TAG,           /* a tag */
     BOOK_RECORD,   /* offset in the book of a record's kind byte */
     NUMBERS,       /* how many numbers the dose buffer needs */
-    BYTES          /* how many bytes the package buffer needs */
+    BYTES          /* how many bytes the package buffer or the digest buffer needs */
 };
 
 struct refusal {
@@ -34,9 +34,9 @@ struct refusal {
 
 static const struct refusal refusals[] = {
     [0] = {NOWHERE,
-           "accepted; in a look-up: found; in a writing: written",
+           "accepted; in a look-up: found; in a writing: written; of a digest: done",
            "how many doses; in a look-up: file offset of the bytes; in a writing: the "
-           "package's length in bytes",
+           "package's length in bytes; of a digest: 16",
            "a right package",
            "Nothing."},
     [1] = {NOWHERE,
@@ -154,7 +154,7 @@ static const struct refusal refusals[] = {
     [20] = {BOOK_RECORD,
             "a weighed record of a kind that the edition does not know",
             KIND_PLACE,
-            "a book for a later edition; a damaged book",
+            "a book for a later edition; a fault of the program that made the book",
             "Ask the supplier for a book of the station's edition, or have the station "
             "brought to the book's. The record cannot be left out: the batch would lack "
             "an oxide."},
@@ -166,7 +166,7 @@ static const struct refusal refusals[] = {
     [22] = {BOOK_RECORD,
             "an oxide is not 1 to 999, or milligrams are not 1 to 5000000",
             KIND_PLACE,
-            "a weight in another unit; a wrong code; a damaged book",
+            "a weight in another unit; a wrong code",
             "Ask the supplier to correct that record. Do not guess the weight."},
     [23] = {TAG,
             "the doses' sum is not the batch weight (edition 2)",
@@ -191,13 +191,22 @@ static const struct refusal refusals[] = {
             "for that locale",
             "Stop there: the lowest number that gives 26 is the entry's count. rpm shows "
             "element 0 in place of a missing translation."},
+    [27] = {TAG,
+            "the package is damaged: the digest (MD5) of its bytes from the header's "
+            "start to its end is not the one that the signature's 1004 states",
+            "1004",
+            "a bit or a byte that changed on the way or on the disk, perhaps in a dose; a "
+            "package changed after it was made",
+            AGAIN "for a package made anew. Do not use its doses, even if they look "
+                  "right: one of them may be what is damaged."},
     [32] = {NOWHERE,
             "writing: the name, a list or an entry is none that can be written",
             "0",
             "a type, or a count, that no entry of the list may have; data that is not "
             "what type and count say, or a string without its zero byte; a tag twice; "
-            "1000 in the signature's list; no entry for the header, or more than 512; a "
-            "name that is empty, over 65 bytes or has a zero byte",
+            "1000 or 1004 in the signature's list, or more than 510 entries there; no "
+            "entry for the header, or more than 512; a name that is empty, over 65 bytes "
+            "or has a zero byte",
             "Correct what the host program lends. Nothing was written."},
     [33] = {NOWHERE,
             "writing: the package would be longer than 65536 bytes",
@@ -205,11 +214,11 @@ static const struct refusal refusals[] = {
             "too many entries, or too much data in them",
             "Leave entries out or shorten them. Nothing was written."},
     [34] = {BYTES,
-            "writing: the package buffer is too short",
+            "writing: the package buffer is too short; of a digest: the digest buffer is",
             "how many bytes are needed",
-            "a fault of the host program, not of what it lends to be written",
-            "Lend so many bytes; STATION_PACKAGE_ROOM is enough for every package. "
-            "Nothing was written."},
+            "a fault of the host program, not of what it lends to be written or digested",
+            "Lend so many bytes; STATION_PACKAGE_ROOM is enough for every package, "
+            "STATION_DIGEST_BYTES for a digest. Nothing was written."},
 };
 
 enum { REFUSALS = sizeof refusals / sizeof refusals[0] };

@@ -316,6 +316,7 @@ static int structure_with(struct bytes package, uint32_t number, uint32_t tag)
         return line != NULL && breaks(entry_of(package, SIGNATURE, tag), line) ? SIGNATURE
                                                                                : HEADER;
     case 16:
+    case 27:
         return SIGNATURE;
     case 17:
         return group != NULL ? group->structure : HEADER;
@@ -340,6 +341,18 @@ static void print_header_size(struct bytes package)
     printf(NEXT_LINE "the header starts at %" PRIu64 "; from there to the end are %" PRIu64
                      " bytes",
            start, package.length - start);
+}
+
+/* The digest of a package's bytes from the header on. */
+static void print_digest(struct bytes package)
+{
+    uint8_t digest[STATION_DIGEST_BYTES];
+    uint64_t start = header_start(package);
+    (void)station_digest(package.start + start, package.length - start, digest,
+                         sizeof digest);
+    print_header_size(package);
+    printf(NEXT_LINE "their digest is ");
+    print_bytes((struct bytes){digest, sizeof digest}, 0, sizeof digest);
 }
 
 static void print_group(struct bytes package, uint32_t tag)
@@ -385,6 +398,9 @@ static void print_tag(struct bytes package, uint32_t number, uint32_t tag)
         break;
     case 23:
         print_sum(package);
+        break;
+    case 27:
+        print_digest(package);
         break;
     default:
         break;
@@ -439,7 +455,7 @@ static void print_place(struct bytes package, uint32_t number, uint32_t place)
         printf("%" PRIu32 " numbers of the dose buffer are needed", place);
         break;
     case BYTES:
-        printf("%" PRIu32 " bytes of the package buffer are needed", place);
+        printf("%" PRIu32 " bytes of the buffer are needed", place);
         break;
     }
 }

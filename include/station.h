@@ -1,13 +1,15 @@
 /*
- * station.h: read and write an RPM package (a recipe book) from C, and look into it.
+ * station.h: read and write an RPM package (a recipe book) from C, look into it, and
+ * make a digest of bytes.
  *
  * Link with libstation.a; no other library is needed.
  *
  * Lending. Every call that reads gets a whole package as a pointer and a length;
- * station_write gets a name and lists of entries in the same way. A call reads
- * nothing outside those bytes, changes none of them, and keeps nothing: when it
- * returns, the memory is yours again. station_read also gets a dose buffer,
- * station_write a package buffer; they write there, and only when they succeed.
+ * station_write gets a name and lists of entries in the same way, station_digest any
+ * bytes. A call reads nothing outside those bytes, changes none of them, and keeps
+ * nothing: when it returns, the memory is yours again. station_read also gets a dose
+ * buffer, station_write a package buffer, station_digest a digest buffer; they write
+ * there, and only when they succeed.
  * There is no state and nothing to free, and calls may run at the same time, each
  * with a buffer of its own. The bytes may be anything, of any length; no call asks
  * you to test them first, and none fails otherwise than by its answer. No pointer
@@ -23,6 +25,7 @@
  *    0      station_read: accepted                       how many doses
  *           look-ups: found                              file offset of the bytes
  *           station_write: written                       the package's length
+ *           station_digest: done                         16
  *    1      the edition is neither 1 nor 2               0
  *    2      the package is longer than 65,536 bytes      0
  *    3      it is shorter than a lead, 96 bytes          its length
@@ -69,22 +72,28 @@
  *                                                        needed: two per dose
  *   25      no record has that tag and that type         0
  *   26      the entry has no element of that number      0
+ *   27      the signature's 1004 is not the MD5 digest   1004
+ *           of the bytes from the header's start to the
+ *           package's end: the package is damaged
  *   32      the name, a list or an entry is none that    0
  *           can be written
  *   33      the package would be longer than 65,536      0
  *           bytes
- *   34      the package buffer is too short              how many bytes are needed
+ *   34      the package buffer or the digest buffer is   how many bytes are needed
+ *           too short
  *
  * Places of 4 to 13 are offsets from the package's first byte, those of 20 to 22
- * from the book's first byte; those of 14 to 19 and 23 are tags. No call answers 27
- * to 31 or a number above 34; take a number that you do not know for a refusal.
+ * from the book's first byte; those of 14 to 19, 23 and 27 are tags. No call answers
+ * 28 to 31 or a number above 34; take a number that you do not know for a refusal.
  *
  * The checks run in this order: 1 (station_read only); 2 to 4; 5 to 13 for the
- * signature; 5 to 13 for the header; then 14 to 24 for station_read, 25 and 26 for
- * look-ups. Within a structure 9 to 13 run record by record. 14 and 15 run tag by
- * tag, the signature's tags first. 20 to 22 run record by record of the book. So a
- * damaged header is reported even if you ask for an entry of the signature.
- * station_write runs 32, 33 and 34 alone.
+ * signature; 5 to 13 for the header; then 14 to 18, 27 and 19 to 24 for station_read,
+ * 25 and 26 for look-ups. Within a structure 9 to 13 run record by record. 14 and 15
+ * run tag by tag, the signature's tags first. 20 to 22 run record by record of the
+ * book. So a damaged header is reported even if you ask for an entry of the signature.
+ * A look-up does not compare the digest: it also shows the entries of a package that
+ * station_read refuses with 27. station_write runs 32, 33 and 34 alone, station_digest
+ * 34.
  */
 #ifndef STATION_H
 #define STATION_H
@@ -108,6 +117,9 @@ extern "C" {
 #define STATION_ENTRY_BYTES 16
 #define STATION_PACKAGE_ROOM 65536
 
+/* Bytes of a digest. */
+#define STATION_DIGEST_BYTES 16
+
 /*
  * Which doses does the book state?
  *
@@ -124,6 +136,11 @@ extern "C" {
  * state none. Any other number leaves every byte of the buffer as it was; nothing
  * is written before all checks have passed. STATION_DOSES_ROOM bytes are enough for
  * every book; with less, a book of more doses is refused (24).
+ *
+ * A package that was damaged on the way, be it by one bit of the book, which is part of
+ * the header, or of the payload, is refused (27), if no check before that fails. This is
+ * for damage: whoever changes a package on purpose can state its digest anew. No
+ * signature is looked at.
  *
  * Edition 2 knows all that edition 1 does, a date record and a dose with a
  * tolerance besides, and asks for the batch weight (20002), which must be the sum
@@ -193,12 +210,12 @@ uint64_t station_find_element(const uint8_t *package, size_t package_len,
  * less and no more: of a fixed size, count times the element's size; of strings,
  * so many, each with its zero byte. Nothing is aligned in what is lent.
  *
- * Written are the lead with the name, its free bytes zero; the signature, whose
- * first entry is 1000, int32, the length from the header's start to the package's
- * end, and the rest yours; zero bytes to the header's start; the header. There is no
- * payload. Entries and data stand in the list's order, the data packed, with zero
- * bytes where alignment asks for them. 1000 is written for you: a signature list
- * that holds it is refused.
+ * Written are the lead with the name, its free bytes zero; the signature, whose first
+ * two entries are 1000, int32, the length from the header's start to the package's
+ * end, and 1004, bin, the MD5 digest of those bytes, and the rest yours; zero bytes to
+ * the header's start; the header. There is no payload. Entries and data stand in the
+ * list's order, the data packed, with zero bytes where alignment asks for them. 1000
+ * and 1004 are written for you: a signature list that holds either is refused.
  *
  * On success the number is 0 and the place is the package's length; the bytes of
  * the buffer behind it stay as they were. Any other number leaves every byte of the
@@ -207,8 +224,8 @@ uint64_t station_find_element(const uint8_t *package, size_t package_len,
  *   32  - the name is not 1 to 65 bytes, or has a zero byte;
  *       - a list's length is no multiple of 16, an entry's data passes the end of
  *         the data, or bytes of data belong to no entry;
- *       - the signature's list is over 511 entries (512 with 1000) or holds 1000;
- *         the header's list is empty or over 512 entries;
+ *       - the signature's list is over 510 entries (512 with 1000 and 1004) or holds
+ *         1000 or 1004; the header's list is empty or over 512 entries;
  *       - an entry's type is none of 1-4 and 6-9; its count is 0, or not 1 for a
  *         string (6) or, in the signature's list, a translated string (9); an
  *         earlier entry of its list has its tag; or its data is not exactly what
@@ -217,7 +234,7 @@ uint64_t station_find_element(const uint8_t *package, size_t package_len,
  *   34  the package buffer is shorter than the package; with the place's number of
  *       bytes, or STATION_PACKAGE_ROOM, it is written
  *
- * What is written passes checks 2 to 13, and 16: the look-ups show each entry with
+ * What is written passes checks 2 to 13, 16 and 27: the look-ups show each entry with
  * its data. Whether station_read accepts it is up to the entries: a translated
  * string, say, that has more strings than tag 100 is written, and refused when it is
  * read (17). Read it before you send it out. examples/make_book.c does.
@@ -228,6 +245,30 @@ uint64_t station_write(const uint8_t *name, size_t name_len,
                        const uint8_t *header, size_t header_len,
                        const uint8_t *header_data, size_t header_data_len,
                        uint8_t *package, size_t package_len);
+
+/*
+ * The MD5 digest (RFC 1321) of bytes.
+ *
+ *   bytes, bytes_len       the lent bytes: anything, of any length, also none
+ *   digest, digest_len     the lent digest buffer
+ *
+ * On success the number is 0 and the place is 16. The digest's 16 bytes
+ * (STATION_DIGEST_BYTES) stand at the buffer's front, in the order in which md5sum
+ * prints them; the bytes behind them stay as they were. With less room the answer is
+ * 34, place 16, and every byte of the buffer stays as it was. The bytes of "abc":
+ *
+ *   bytes        61 62 63
+ *   digest       90 01 50 98 3C D2 4F B0 D6 96 3F 7D 28 E1 7F 72
+ *
+ *   uint8_t digest[STATION_DIGEST_BYTES];
+ *   station_digest(bytes, 3, digest, sizeof digest);
+ *
+ * The digest that a package states is the data of the signature's 1004, bin; it is that
+ * of the package's bytes from the header's start to its end. examples/station.c shows
+ * both where they differ.
+ */
+uint64_t station_digest(const uint8_t *bytes, size_t bytes_len,
+                        uint8_t *digest, size_t digest_len);
 
 #ifdef __cplusplus
 }

@@ -1,7 +1,8 @@
 #!/bin/sh
-# Measures the library against the reference, and against librpm where its development files
-# are (Debian: librpm-dev): run from the repository's root, after `rt staticlib station`.
-# STATION_LIB names another library to measure; LIBRPM=no leaves librpm out.
+# Measures the library against the reference, and against librpm and openssl where their
+# development files are (Debian: librpm-dev, libssl-dev): run from the repository's root, after
+# `rt staticlib station`. STATION_LIB names another library to measure; LIBRPM=no leaves librpm
+# out, OPENSSL=no openssl.
 #
 #   tests/bench.sh           shows times, ratios and instruction counts
 #   tests/bench.sh --write   writes them to docs/PERFORMANCE.md and docs/performance.svg
@@ -27,14 +28,20 @@ esac
 mkdir -p "$out"
 objcopy --set-section-alignment '.text*=64' "$lib" "$out/libstation.a"
 $rust --crate-type rlib --crate-name reference tests/reference/lib.rs -o "$out/libreference.rlib"
-peer=
+peers=
 if [ "${LIBRPM:-}" != no ] && echo 'int main(void) { return 0; }' |
     cc -xc - -lrpm -lrpmio -o "$out/librpm" 2> "$out/librpm.log"; then
-    peer="--cfg librpm"
+    peers="--cfg librpm"
 else
     echo "bench: librpm is missing, it is not measured" >&2
 fi
-$rust --check-cfg "cfg(librpm)" $peer tests/bench/main.rs --extern "reference=$out/libreference.rlib" \
+if [ "${OPENSSL:-}" != no ] && printf '#include <openssl/md5.h>\nint main(void) { return 0; }\n' |
+    cc -xc - -lcrypto -o "$out/openssl" 2> "$out/openssl.log"; then
+    peers="$peers --cfg openssl"
+else
+    echo "bench: openssl is missing, it is not measured" >&2
+fi
+$rust --check-cfg "cfg(librpm, openssl)" $peers tests/bench/main.rs --extern "reference=$out/libreference.rlib" \
     -C "link-arg=$out/libstation.a" -o "$out/bench"
 
 # count PART-OF-A-NAME: the cases to target/bench/counts/cases, a file per call beside it

@@ -35,6 +35,13 @@ gives "$data/locales_right" 'edition 2' '27 1250' 'total 1250'
 gives "$data/check17_locales" 'refused 17 at 1004'
 gives "$data/check10_signature_translated" 'refused 10 at 128'
 gives tests/data/house-i18n.rpm 'edition 2' '27 1250' 'total 1250'
+gives "$data/book_payload" 'edition 2' '27 1250' 'total 1250'
+gives "$data/check27_dose_bit" 'refused 27 at 1004'
+gives "$data/check27_payload_bit" 'refused 27 at 1004'
+gives "$data/check27_digest_bit" 'refused 27 at 1004'
+gives "$data/check27_from_the_lead" 'refused 27 at 1004'
+gives "$data/check27_after_system" 'refused 18 at 1021'
+gives "$data/check27_before_4097_bytes" 'refused 27 at 1004'
 
 # 585 doses of 1250 mg
 lines=('edition 2')
@@ -57,6 +64,26 @@ says 'input beyond the limit, however long' "$(head -c 200000 /dev/zero | "$dose
 says 'input in two pieces' "$({ head -c 50 "$right"; sleep 0.2; tail -c +51 "$right"; } | "$doses"; echo .)" \
     'edition 2' '27 1250' 'total 1250'
 says 'no input' "$("$doses" < /dev/null; echo .)" 'refused 3 at 0'
+
+# flipped FILE PLACE BIT: the file with one bit otherwise
+flipped() {
+    local byte
+    byte=$(od -An -v -tu1 -j "$2" -N 1 "$1")
+    head -c "$2" "$1"
+    printf '%b' "$(printf '\\x%02x' $((byte ^ $3)))"
+    tail -c "+$(($2 + 2))" "$1"
+}
+
+# one bit otherwise in the digest (304), the dose (1872), the batch weight (1880) or the payload (1900)
+for place in 304 319 1872 1873 1874 1875 1878 1880 1883 1900 2006; do
+    for bit in 1 128; do
+        says "bit $bit changed at $place" "$(flipped "$right" $place $bit | "$doses"; echo .)" 'refused 27 at 1004'
+    done
+done
+# what stands before the header, the digest apart, is not digested: the lead's name, its reserved bytes
+for place in 20 80 95; do
+    says "a bit changed at $place" "$(flipped "$right" $place 1 | "$doses"; echo .)" 'edition 2' '27 1250' 'total 1250'
+done
 
 # input that can't be read is no package
 unread='cannot read standard input'

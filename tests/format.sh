@@ -1,11 +1,11 @@
 #!/bin/bash
 # Tests docs/FORMAT.md: its catalogue is the program's and the printed tables', and its packages are read as it says. Run
-# from the repository's root, after `rt check` built target/bin/doses and target/bin/inspect.
+# from the repository's root, after `rt check` built target/bin/doses, target/bin/inspect and target/bin/digest.
 set -euo pipefail
 
 page=docs/FORMAT.md
 doses=target/bin/doses
-for program in "$doses" target/bin/inspect; do
+for program in "$doses" target/bin/inspect target/bin/digest; do
     [ -x "$program" ] || { echo "tests: no $program (rt check makes it)" >&2; exit 1; }
 done
 work=$(mktemp -d)
@@ -68,6 +68,19 @@ awk '{ at = 16 * n++; if (n > 11) at -= 8; if (at != substr($0, index($0, "#") +
 [ "$("$doses" < "$work/sky.rpm")" = $'edition 2\n27 1250\ntotal 1250' ] || fail "$page: the package by hand"
 stated=$(head -c 164 "$work/sky.rpm" | tail -c 16 | od -An -v -tx1 | tr -d ' ')
 [ "$stated" = "$(tail -c +169 "$work/sky.rpm" | md5sum | cut -c 1-32)" ] || fail "$page: the digest of the package by hand"
+sed -n '/^## Digest$/,/^## /s/^    \(tail .*\)/\1/p' "$page" > "$work/commands"
+[ "$(wc -l < "$work/commands")" = 2 ] || fail "$page: not two commands for a digest"
+while read -r line; do
+    said=$(bash -c "${line/FILE/$work/sky.rpm}" | cut -c 1-32)
+    [ "$said" = "$stated" ] || fail "$page: $line"
+done < "$work/commands"
+# one bit otherwise, in the digest, in a text, in the book and in its last dose
+for place in 148 163 792 830 839; do
+    byte=$(od -An -v -tu1 -j "$place" -N 1 "$work/sky.rpm")
+    other=$(printf '\\x%02x' $((byte ^ 1)))
+    { head -c "$place" "$work/sky.rpm"; printf '%b' "$other"; tail -c "+$((place + 2))" "$work/sky.rpm"; } > "$work/flipped.rpm"
+    [ "$("$doses" < "$work/flipped.rpm")" = 'refused 27 at 1004' ] || fail "$page: a bit changed at $place"
+done
 {
     head -c 144 "$work/sky.rpm"; printf '\0\0\2\xae'
     head -c 180 "$work/sky.rpm" | tail -c +149; printf '\0\0\0\x4e'
@@ -76,8 +89,15 @@ stated=$(head -c 164 "$work/sky.rpm" | tail -c 16 | od -An -v -tx1 | tr -d ' ')
     head -c 830 "$work/sky.rpm" | tail -c +785
     printf '\x98\0\x1b\0\0\4\xe2\0\5\x02\0\7\x86\0\1\0\0\0\x64\x14\0\0\0\1'
 } > "$work/own.rpm"
+# put_digest FILE: as the page says
+sed -n '/^6[.] At 148/,/^## /s/^       //p' "$page" > "$work/put"
+[ "$(wc -l < "$work/put")" = 2 ] || fail "$page: not two lines that put the digest"
+put_digest() { sed "s|sky.rpm|$1|" "$work/put" | bash; }
+[ "$("$doses" < "$work/own.rpm")" = 'refused 27 at 1004' ] || fail "$page: a book of one's own, the digest wrong"
+put_digest "$work/own.rpm"
 [ "$("$doses" < "$work/own.rpm")" = 'refused 23 at 20002' ] || fail "$page: a book of one's own, the weight wrong"
 { head -c 780 "$work/own.rpm"; printf '\0\0\5\x46'; tail -c +785 "$work/own.rpm"; } > "$work/right.rpm"
+put_digest "$work/right.rpm"
 [ "$("$doses" < "$work/right.rpm")" = $'edition 2\n27 1250\n1 100\ntotal 1350' ] || fail "$page: a book of one's own"
 
 # the page's examples

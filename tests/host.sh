@@ -72,6 +72,7 @@ accepts "--edition 2 $data/book_example" "$title" 'oxide  27     1250 mg' '1 dos
 accepts "--edition 1 $data/book_example" "${title/2/1}" 'oxide  27     1250 mg' '1 dose, 1250 mg in all'
 accepts "--edition 1 $data/check23_sum" "${title/2/1}" 'oxide  27     1250 mg' '1 dose, 1250 mg in all'
 accepts "$data/book_two_kinds" "$title" 'oxide  27     1250 mg' 'oxide   1        1 mg' '2 doses, 1251 mg in all'
+accepts "$data/book_payload" "$title" 'oxide  27     1250 mg' '1 dose, 1250 mg in all'
 accepts "$data/book_most_milligrams" "$title" 'oxide  27  5000000 mg' '1 dose, 5000000 mg in all'
 accepts "$data/book_no_doses" "$title" '0 doses, 0 mg in all'
 accepts "$data/locales_right" "$title" 'oxide  27     1250 mg' '1 dose, 1250 mg in all'
@@ -144,8 +145,37 @@ refuses "$data/check23_sum" 23 20002 '1249 (00 00 04 E1)' 'the doses sum to 1250
 refuses tests/data/rb-one.rpm 14 20001
 refuses tests/data/rb-i18n.rpm 14 20001
 
+# one bit otherwise in the dose; another first and another last byte of the digest, which is at 304
+# digest_from PLACE FILE: the digest of the bytes from there on, as the program writes it
+digest_from() {
+    tail -c "+$(($1 + 1))" "$2" | md5sum | cut -c 1-32 | sed 's/../ &/g;s/^ //' | tr a-f A-F
+}
+right=tests/data/house-one-region.rpm
+stated=$(digest_from 336 "$right")
+md5="the signature's tag 1004 (SIGTAG_MD5) is bin, count 16, at file offset 304"
+{ head -c 1878 "$right"; printf '\xe3'; tail -c +1880 "$right"; } > "$work/dose"
+for edition in 1 2; do
+    refuses "--edition $edition $work/dose" 27 1004 'the package is damaged' "$md5: $stated" \
+        'the header starts at 336; from there to the end are 1671 bytes' "their digest is $(digest_from 336 "$work/dose")"
+done
+[ "$(digest_from 336 "$work/dose")" != "$stated" ] || fail 'no bit was changed'
+{ head -c 304 "$right"; printf '\0'; tail -c +306 "$right"; } > "$work/digest"
+refuses "$work/digest" 27 1004 "$md5: 00 ${stated#* }" "their digest is $stated"
+{ head -c 319 "$right"; printf '\0'; tail -c +321 "$right"; } > "$work/digest"
+refuses "$work/digest" 27 1004 "$md5: ${stated% *} 00" "their digest is $stated"
+
+# the samples, whose digest is at 148 and whose header starts at 168
+for name in dose_bit payload_bit payload_first_bit digest_bit digest_first_bit from_the_lead without_payload; do
+    for edition in 1 2; do
+        refuses "--edition $edition $data/check27_$name" 27 1004 'count 16, at file offset 148: ' \
+            'the header starts at 168; from there to the end are 791 bytes' "their digest is $(digest_from 168 "$data/check27_$name")"
+    done
+done
+refuses "$data/check27_after_system" 18 1021
+refuses "$data/check27_before_4097_bytes" 27 1004
+
 # 24 cannot come up: the program has room for every book
-for number in $(seq 23); do
+for number in $(seq 23) 27; do
     case "$numbers " in *" $number "*) ;; *) fail "no refusal $number" ;; esac
 done
 
@@ -261,6 +291,11 @@ int main(void)
 END
 gcc -std=c11 -O2 -Wall -Wextra -Werror -pedantic -Iinclude "$work/lists.c" "$lib" -o "$work/lists"
 "$work/lists" || fail 'include/station.h: its lists are not written'
+
+# include/station.h: its digest
+sed -n 's/^ \*   digest       \([0-9A-F ]*\)$/\1/p' include/station.h > "$work/stated"
+[ "$(cat "$work/stated")" = "$(printf abc | digest_from 0 -)" ] || fail 'include/station.h: not the digest of "abc"'
+grep -q '^ \*   bytes        61 62 63$' include/station.h || fail 'include/station.h: not the bytes of "abc"'
 
 # examples/tags.h has the lines of 000's tables, but for the exceptions of documents 01 and 02
 awk -F ' *[|] *' '

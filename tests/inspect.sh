@@ -1,5 +1,5 @@
 #!/bin/bash
-# Tests the program inspect: run from the repository's root, after `rt check` built target/bin/inspect.
+# Tests the program inspect: run from the repository's root, after `rt check` built target/bin/inspect and target/bin/digest.
 # A line of tests/inspect/cases.txt says what is expected, tests/inspect/NAME.out, its input and the arguments.
 # INSPECT names another program to test.
 set -euo pipefail
@@ -103,14 +103,14 @@ done
 "$inspect" index < / > "$work/out"
 same "index, of a directory" tests/inspect/usage.out
 
-# README.md: what the program writes for its examples
-sed -n '/^    \$ target\/bin\/inspect /,/^$/s/^    //p' README.md > "$work/examples"
-sed -n 's|^\$ target/bin/inspect ||p' "$work/examples" > "$work/arguments"
-[ -s "$work/arguments" ] || fail 'README.md: no examples'
+# README.md: what the programs write for its examples
+sed -n '/^    \$ .*target\/bin\//,/^$/s/^    //p' README.md > "$work/examples"
+sed -n 's|^\$ ||p' "$work/examples" > "$work/commands"
+[ "$(wc -l < "$work/commands")" = 5 ] || fail 'README.md: not 5 examples'
 while IFS= read -r line; do
-    printf '$ target/bin/inspect %s\n' "$line"
-    eval "\"\$inspect\" $line"
-done < "$work/arguments" > "$work/out"
+    printf '$ %s\n' "$line"
+    eval "${line//target\/bin\/inspect/\"\$inspect\"}"
+done < "$work/commands" > "$work/out"
 same 'of README.md' "$work/examples"
 
 # what rpm reads from the packages

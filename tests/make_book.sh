@@ -61,15 +61,18 @@ stops() {
     [ "$before" = "$(files)" ] || fail "make_book $*: files changed: $(ls -A "$shop")"
 }
 
-# states FILE DOSE..: the station reads these doses, each OXIDE:MILLIGRAMS
+# states FILE DOSE..: the station reads these doses, each OXIDE:MILLIGRAMS, and the digest, at 148, is that of the bytes
+# from the header on, at 168
 states() {
-    local file=$1 dose sum=0
+    local file=$1 dose digest
     shift
     for dose in "$@"; do
         printf 'oxide %3d  %7d mg\n' "${dose%:*}" "${dose#*:}"
     done > "$work/doses"
     "$station" "$shop/$file" | sed '1d;$d' | diff "$work/doses" - || fail "$file: not its doses"
     for edition in 1 2; do "$station" --edition $edition "$shop/$file" > /dev/null || fail "$file: edition $edition"; done
+    digest=$(od -An -v -tx1 -j 148 -N 16 "$shop/$file" | tr -d ' \n')
+    [ "$digest" = "$(tail -c +169 "$shop/$file" | md5sum | cut -c 1-32)" ] || fail "$file: not its digest"
 }
 
 # right packages: from a file, from standard input, under another name
@@ -291,8 +294,8 @@ refused() {
     [ "$(tail -n 1 "$work/err")" = 'make_book: no package was made' ] || fail "$2: the last line"
     [ ! -s "$work/out" ] && [ "$before" = "$(files)" ] || fail "$2: a file or an output"
 }
-for number in 32 33 34 35 27 4294967295; do WRITES=$number:172 READS=0:1 refused writing $number 172; done
-for number in $(seq 24) 27 35; do WRITES=0:172 READS=$number:20002 refused 'reading it again' $number 20002; done
+for number in 32 33 34 35 28 4294967295; do WRITES=$number:172 READS=0:1 refused writing $number 172; done
+for number in $(seq 24) 27 28 35; do WRITES=0:172 READS=$number:20002 refused 'reading it again' $number 20002; done
 others='reading it again: the doses are not those of the lines'
 WRITES=0:172 READS=0:0 stops 1 "$others" told 1 < <(echo '27 1250')
 WRITES=0:172 READS=0:2 stops 1 "$others" told 1 < <(echo '27 1250')
@@ -321,6 +324,15 @@ if command -v rpm > /dev/null; then
     rpm_says '/usr/share/books/sky' '[%{filenames}]' sky-2.0.rpm
     rpm_says 'rpmlib(CompressedFileNames)' '[%{requirename}]' sky-2.0.rpm
     [ "$(rpm -qp --provides "$shop/sky-2.0.rpm" 2> /dev/null | sort -u)" = 'sky = 2.0-1' ] || fail 'rpm: not what is provided'
+    # the digest is right, and a changed bit of a dose is found
+    for file in sky-2.0.rpm one-1.rpm order-1.rpm full-1.rpm "$long-12.rpm" books/blue.rpm; do
+        cases=$((cases + 1))
+        [ "$(cd "$shop" && rpm -K --nosignature "$file" 2> /dev/null)" = "$file: digests OK" ] || fail "$file: rpm -K"
+    done
+    { head -c 1000 "$shop/books/blue.rpm"; printf '\xe3'; tail -c +1002 "$shop/books/blue.rpm"; } > "$work/flipped.rpm"
+    ! cmp -s "$shop/books/blue.rpm" "$work/flipped.rpm" || fail 'flipped.rpm: no bit was changed'
+    ! rpm -K --nosignature "$work/flipped.rpm" > "$work/out" 2> /dev/null || fail 'flipped.rpm: rpm -K'
+    grep -q 'DIGESTS NOT OK' "$work/out" || fail 'flipped.rpm: what rpm -K says'
 else
     echo 'tests: make_book: no rpm here'
 fi
@@ -336,6 +348,13 @@ makes "${said%%:*}" "${said#*: }" $(cat "$work/arguments") read.txt
 sed 's/ 1250/ 1,250/' "$shop/read.txt" > "$shop/sky.txt"
 runs 1 $(sed 's/ 1$/ 2/' "$work/arguments") sky.txt
 sed -n 's/^    make_book: /make_book: /p' "$page" | diff - "$work/err" || fail 'README.md: another message'
+
+# README.md and docs/FORMAT.md have what rpm says of its digest
+if command -v rpm > /dev/null; then
+    for text in README.md docs/FORMAT.md; do
+        grep -qF "$(cd "$shop" && rpm -K --nosignature sky-1.rpm 2> /dev/null | sed 's/.*: //')" "$text" || fail "$text: rpm -K"
+    done
+fi
 
 # docs/FORMAT.md: the bytes of that package
 grep -q "\`sky-1.rpm\`, $(wc -c < "$shop/sky-1.rpm") bytes:" docs/FORMAT.md || fail 'docs/FORMAT.md: another length'

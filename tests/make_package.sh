@@ -36,6 +36,14 @@ make() {
     fi
 }
 
+# refused_by_rpm FILE
+refused_by_rpm() {
+    if command -v rpm > /dev/null && rpm -K --nosignature "$out/$1" > "$out/rpm" 2>&1; then
+        echo "make_package: rpm accepts $1" >&2
+        exit 1
+    fi
+}
+
 make example.rpm "0 at 1: 27 1250" "0 at 1: 27 1250" --book "02 0007 86 001B 000004E2"
 make blank.rpm "0 at 0: " "0 at 0: " --book 00 --weight 0
 make two.rpm "0 at 2: 1 100 2 200" "0 at 2: 1 100 2 200" \
@@ -61,6 +69,25 @@ fi
 make translations.rpm "17 at 1005: " "17 at 1005: " --dose 27:1250 --entry 1005:i18ns:One,Eins --entry 30000:i18ns:a,b
 # The seventh record of the signature
 ours signature.rpm "10 at 208: " "10 at 208: " --dose 27:1250 --entry 100:strings:C,de --signature-entry 30000:i18ns:a,b
+# A digest that isn't the package's, and one that is too short
+ours digest.rpm "27 at 1004: " "27 at 1004: " --dose 27:1250 --signature-entry 1004:bin:000102030405060708090A0B0C0D0E0F
+ours digest_15.rpm "15 at 1004: " "15 at 1004: " --dose 27:1250 --signature-entry 1004:bin:000102030405060708090A0B0C0D0E
+refused_by_rpm digest.rpm
+# turned FILE PART PLACE: example.rpm with one bit turned over at a place of a part in hex; neither accepts it
+turned() {
+    python3 -c '
+import sys
+source, out, part, place = sys.argv[1:]
+bits = bytearray(open(source, "rb").read())
+bits[bits.index(bytes.fromhex(part)) + int(place)] ^= 1
+open(out, "wb").write(bits)
+' "$out/example.rpm" "$out/$1" "$2" "$3"
+    reads "$1" 1 "27 at 1004: "
+    reads "$1" 2 "27 at 1004: "
+    refused_by_rpm "$1"
+}
+turned dose_bit.rpm 86001B000004E2 2
+turned payload_bit.rpm 1F8B 20
 make dose_first.rpm "20 at 7: " "0 at 2: 1 100 27 1250" --dose 1:100 --book "98 001B 000004E2 0005"
 # rpm takes a tag of 2^32 - 1 for -1
 ours largest.rpm "0 at 0: " "23 at 20002: " --book 00 --weight 4294967295 --entry 4294967295:int16:65535 \

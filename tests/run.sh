@@ -24,8 +24,11 @@ if [ -n "$reading" ]; then
     "$out/read_test" tests/data
     $cc tests/c/write_test.c "$lib" -o "$out/write_test"
     "$out/write_test" "$out/written.rpm"
+    $cc tests/c/digest_test.c "$lib" -o "$out/digest_test"
+    "$out/digest_test"
     if command -v rpm > /dev/null; then
-        said=$(rpm -qp --nodigest --nosignature \
+        rpm -K --nosignature "$out/written.rpm" > "$out/rpm.log" || { cat "$out/rpm.log" >&2; exit 1; }
+        said=$(rpm -qp --nosignature \
             --qf '%{name} %{version} %{os} [%{requirename}] [%{filenames}] %{sigsize}' "$out/written.rpm" 2> "$out/rpm.log")
         [ "$said" = "book 1 linux glass /srv/book 768" ] || { echo "tests: rpm reads $said" >&2; exit 1; }
     fi
@@ -36,6 +39,9 @@ $rust --crate-type rlib --crate-name reference tests/reference/lib.rs -o "$out/l
 $rust $reading tests/compare/main.rs --extern "reference=$out/libreference.rlib" \
     -C "link-arg=$lib" -o "$out/compare"
 "$out/compare" tests/data "$out/difference.rpm"
+
+echo "tests: digests, compared with md5sum and hashlib"
+tests/md5sum.sh
 
 if [ -n "$reading" ]; then
     echo "tests: the C calls on changed packages"

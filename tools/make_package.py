@@ -30,6 +30,8 @@ EXAMPLES = """examples:
       refused 23 at 20002
   %(prog)s --book 00 --entry 1021:string:hurd --without 1126 wrong.rpm
       refused 14 at 1126
+  %(prog)s --dose 27:1250 --signature-entry 1004:bin:00000000000000000000000000000000 wrong.rpm
+      refused 27 at 1004
 """
 
 TYPES = {
@@ -135,7 +137,7 @@ def arguments():
                              + ', '.join(TYPES) + '; numbers, strings and i18ns (a text for each locale of tag 100) '
                              'are separated by commas, bin is hex')
     parser.add_argument('--signature-entry', metavar='TAG:TYPE:VALUE', type=entry, action='append', default=[],
-                        help='the same in the signature')
+                        help='the same in the signature, where 1000 (size) and 1004 (digest) are right unless given')
     parser.add_argument('--without', metavar='TAG', type=int, action='append', default=[],
                         help='a header tag to leave out')
     options = parser.parse_args()

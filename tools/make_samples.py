@@ -127,6 +127,24 @@ def book(text):
     return accepted(bytes.fromhex(text))
 
 
+def turned(bits, part, at=-1):
+    """The package with the lowest bit turned over of one byte of a part that it has once."""
+    assert bits.count(part) == 1
+    place = bits.index(part) + at % len(part)
+    return put(place, bytes([bits[place] ^ 1]), bits)
+
+
+def digest_of(bits, start):
+    """The digest of what a package has from there on."""
+    return hashlib.md5(bits[start:]).digest()
+
+
+# A package with a payload, where its header starts, and the digest that it states.
+BOOK = accepted(DOSE, payload=b'payload')
+BOOK_H = 168
+BOOK_DIGEST = digest_of(BOOK, BOOK_H)
+
+
 # Texts in up to three locales; 30000 is a tag without a line.
 TRANSLATED = {
     1004: (I18N, [b'A book', b'Ein Buch', b'Un livre']),
@@ -159,6 +177,16 @@ READINGS = {
     'check18_system': accepted(DOSE, header={1021: (STRING, b'linuxx')}),
     'check18_index': accepted(DOSE, header={1116: (INT32, [1])}),
     'check18_directory': accepted(DOSE, header={1118: (STRINGS, [b'/usr/share'])}),
+    'book_payload': BOOK,
+    'check27_dose_bit': turned(BOOK, DOSE, 2),
+    'check27_payload_bit': turned(BOOK, b'payload'),
+    'check27_payload_first_bit': turned(BOOK, b'payload', 0),
+    'check27_digest_bit': turned(BOOK, BOOK_DIGEST),
+    'check27_digest_first_bit': turned(BOOK, BOOK_DIGEST, 0),
+    'check27_from_the_lead': BOOK.replace(BOOK_DIGEST, digest_of(BOOK, 0)),
+    'check27_without_payload': BOOK.replace(BOOK_DIGEST, digest_of(BOOK[:-7], BOOK_H)),
+    'check27_after_system': accepted(DOSE, signature={1004: (BIN, bytes(16))}, header={1021: (STRING, b'linuxx')}),
+    'check27_before_4097_bytes': accepted(DOSE * 585 + b'\0\0', signature={1004: (BIN, bytes(16))}),
     'check19_4097_bytes': accepted(DOSE * 585 + b'\0\0'),
     'check20_kind_96': book('96'),
     'check20_kind_80': book('80'),
@@ -174,9 +202,12 @@ READINGS = {
 WRITTEN = {
     'written_smallest': bytes.fromhex(
         'EDABEEDB 0300 0000 0000 61' + '00' * 65 + '0001 0005' + '00' * 16
-        + '8EADE801 00000000 00000001 00000004'
+        + '8EADE801 00000000 00000002 00000014'
         + '000003E8 00000004 00000000 00000001'
-        + '00000021 00000000'
+        + '000003EC 00000007 00000004 00000010'
+        + '00000021'
+        + 'A972E74C171A07F171C57C6914E3587C'
+        + '00000000'
         + '8EADE801 00000000 00000001 00000001'
         + '00000001 00000007 00000000 00000001'
         + '07'),

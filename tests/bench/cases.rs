@@ -3,12 +3,14 @@
 use std::hint::black_box;
 use std::path::Path;
 
+use reference::digest::digest_for_c;
 use reference::writer::write_for_c;
 use reference::{reading, Record};
 
-use crate::librpm;
 use crate::lists::{lent, Lists};
 use crate::packages::{accepted, free, Order, Plan, ORDERS, USUAL};
+use crate::random::Random;
+use crate::{librpm, openssl};
 
 extern "C" {
     fn station_read(
@@ -41,6 +43,12 @@ extern "C" {
         package: *mut u8,
         package_len: usize,
     ) -> u64;
+    fn station_digest(
+        bytes: *const u8,
+        bytes_len: usize,
+        digest: *mut u8,
+        digest_len: usize,
+    ) -> u64;
 }
 
 #[derive(Clone, Copy)]
@@ -53,6 +61,8 @@ pub enum Call {
     Element(u32, u32, u32, u32),
     /// The package from its lists.
     Write,
+    /// The digest of all its bytes.
+    Digest,
 }
 
 #[derive(Clone, Copy, PartialEq, Eq)]
@@ -60,6 +70,7 @@ pub enum Side {
     Library,
     Reference,
     Librpm,
+    Openssl,
 }
 
 /// Those that answer alike.
@@ -70,7 +81,7 @@ const ROOM: usize = 65_536;
 /// Room for any book's doses.
 const DOSES: usize = 585 * 8;
 
-/// What is written to: doses at its front, or a package.
+/// What is written to: doses or a digest at its front, or a package.
 #[derive(PartialEq)]
 pub struct Buffer(Vec<u8>);
 
@@ -84,6 +95,7 @@ pub struct Case {
     /// The table it belongs to.
     pub group: &'static str,
     pub name: String,
+    /// A package, or the bytes that are digested.
     pub package: Vec<u8>,
     /// What the package is written from; empty for other calls.
     lists: Lists,
@@ -104,6 +116,9 @@ impl Case {
                 station_find_element(at, len, structure, tag, ty, element)
             },
             Call::Write => self.library_writes(buffer),
+            Call::Digest => unsafe {
+                station_digest(at, len, buffer.as_mut_ptr(), openssl::DIGEST)
+            },
         }
     }
 
@@ -144,6 +159,7 @@ impl Case {
                 reference::answer(&part)
             }
             Call::Write => self.reference_writes(buffer),
+            Call::Digest => digest_for_c(package, &mut buffer[..openssl::DIGEST]),
         }
     }
 
@@ -158,8 +174,16 @@ impl Case {
         u64::from(librpm::open(black_box(&self.package[..])))
     }
 
-    /// Who is measured: librpm where it is linked, for readings, if it takes the package. A check by itself is
-    /// measured in the library alone.
+    /// Its answer is that of the others, so that all can be compared.
+    #[inline(never)]
+    fn openssl(&self, Buffer(buffer): &mut Buffer) -> u64 {
+        let room = buffer.first_chunk_mut().unwrap();
+        openssl::digest(black_box(&self.package[..]), room);
+        openssl::DIGEST as u64
+    }
+
+    /// Who is measured: librpm where it is linked, for readings, if it takes the package; openssl
+    /// where it is linked, for digests. A check by itself is measured in the library alone.
     pub fn sides(&self) -> Vec<Side> {
         if self.group.starts_with("check") {
             return vec![Side::Library];
@@ -168,11 +192,18 @@ impl Case {
         if self.is_reading() && librpm::open(&self.package) {
             sides.push(Side::Librpm);
         }
+        if self.is_digest() && openssl::LINKED {
+            sides.push(Side::Openssl);
+        }
         sides
     }
 
     pub fn is_reading(&self) -> bool {
         matches!(self.call, Call::Read(_))
+    }
+
+    pub fn is_digest(&self) -> bool {
+        matches!(self.call, Call::Digest)
     }
 
     /// The records of signature and header; 0 where they are not sound.
@@ -189,16 +220,25 @@ impl Case {
             Side::Library => self.library(buffer),
             Side::Reference => self.reference(buffer),
             Side::Librpm => self.librpm(),
+            Side::Openssl => self.openssl(buffer),
         }
     }
 
-    /// The answer; library and reference must agree on it and on what they write.
+    /// The answer; library and reference, and openssl, must agree on it and on what they write.
     pub fn answer(&self) -> u64 {
-        let [library, reference] = ANSWERING.map(|side| {
+        let told = |side| {
             let mut buffer = Buffer::new();
             (self.run(side, &mut buffer), buffer)
-        });
+        };
+        let [library, reference] = ANSWERING.map(told);
         assert!(library == reference, "{}: the answers differ", self.name);
+        if self.sides().contains(&Side::Openssl) {
+            assert!(
+                library == told(Side::Openssl),
+                "{}: openssl's differs",
+                self.name
+            );
+        }
         library.0
     }
 }
@@ -295,6 +335,55 @@ pub fn readings() -> Vec<Case> {
         cases.push(read("reading", format!("64 records, {name}"), package));
     }
     cases
+}
+
+/// Digests of any bytes.
+pub fn digests() -> Vec<Case> {
+    let mut random = Random::new(1321);
+    let mut cases = Vec::new();
+    for (name, size) in [("4 KiB", 4 << 10), ("64 KiB", 64 << 10), ("1 MiB", 1 << 20)] {
+        let bytes = (0..size).map(|_| random.below(256) as u8).collect();
+        cases.push(digest("digest", name.to_string(), bytes));
+    }
+    cases
+}
+
+fn digest(group: &'static str, name: String, bytes: Vec<u8>) -> Case {
+    Case {
+        group,
+        name,
+        package: bytes,
+        lists: Lists::default(),
+        call: Call::Digest,
+    }
+}
+
+/// The digest of each reading that comes to check 27, apart: of the bytes from the header on. An accepted
+/// package comes there; a refused one is refused before.
+pub fn digest_parts(cases: &[Case]) -> Vec<Case> {
+    let mut parts = Vec::new();
+    for case in cases {
+        let group = match case.group {
+            "reading" => "digest of reading",
+            "data reading" => "digest of data reading",
+            "growth rising" => "digest of growth rising",
+            "growth shuffled" => "digest of growth shuffled",
+            _ => continue,
+        };
+        let number = case.answer() >> 32;
+        if number == 0 {
+            let opened = reference::sound(&case.package).unwrap();
+            let header = opened.signature.end().next_multiple_of(8);
+            parts.push(digest(
+                group,
+                case.name.clone(),
+                case.package[header..].to_vec(),
+            ));
+        } else {
+            assert!(number < 19, "{}: refused {number}", case.name);
+        }
+    }
+    parts
 }
 
 /// Look-ups of entries and of elements.

@@ -1,7 +1,7 @@
 //! One call of each side on each case, to be counted by callgrind: with
 //! `--zero-before=counted_call --dump-after=counted_call` it writes a file per call. A line
-//! for each case: group, name, how many calls were counted: library, reference, librpm, or the
-//! library alone.
+//! for each case: group, name, how many calls were counted: library, reference, librpm or
+//! openssl, or the library alone.
 
 use std::hint::black_box;
 

@@ -12,7 +12,7 @@ pub struct Lists {
 }
 
 impl Lists {
-    /// The entries of a package in the order of its index, without the signature's 1000.
+    /// The entries of a package in the order of its index, without the signature's 1000 and 1004.
     pub fn of(package: &[u8]) -> Lists {
         let opened = reference::sound(package).unwrap();
         Lists {
@@ -39,7 +39,7 @@ pub fn lent([entries, data]: &[Vec<u8>; 2]) -> List<'_> {
 fn list(package: &[u8], number: u32, structure: Structure) -> [Vec<u8>; 2] {
     let [mut entries, mut data] = [Vec::new(), Vec::new()];
     for record in structure.records() {
-        if (number, record.tag) == (0, 1000) {
+        if number == 0 && [1000, 1004].contains(&record.tag) {
             continue;
         }
         let part = reference::find(package, number, record.tag, record.ty).unwrap();

@@ -1,4 +1,4 @@
-//! Measures the C calls of libstation.a against the reference, and against librpm.
+//! Measures the C calls of libstation.a against the reference, librpm and openssl.
 //!
 //!     bench times DATA-FOLDER [PART-OF-A-NAME]
 //!     bench counts DATA-FOLDER [PART-OF-A-NAME]
@@ -15,6 +15,7 @@ mod lists;
 #[path = "../compare/maker.rs"]
 #[allow(dead_code)]
 mod maker;
+mod openssl;
 mod packages;
 #[path = "../compare/random.rs"]
 #[allow(dead_code)]
@@ -51,6 +52,8 @@ fn cases(data: &str, part: &str) -> Vec<Case> {
     all.extend(cases::writings());
     all.extend(cases::data(Path::new(data)));
     all.extend(cases::growth());
+    all.extend(cases::digest_parts(&all));
+    all.extend(cases::digests());
     all.retain(|case| format!("{} {}", case.group, case.name).contains(part));
     all
 }

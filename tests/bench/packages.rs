@@ -202,6 +202,7 @@ pub fn accepted(records: usize, order: Order, plan: &Plan) -> Vec<u8> {
             structure.records.rotate_right(1);
         }
     }
+    package.put_digest(0);
     let bytes = package.bytes();
     assert_eq!(reading::read(2, &bytes, &mut [0; 8192]).is_ok(), plan.book);
     bytes

@@ -6,8 +6,9 @@ TOP, BOTTOM = 92, 336
 # Left and right edge of each panel.
 PANELS = [(70, 420), (470, 820)]
 RECORDS = [0, 128, 256, 384, 512]
-# Each with its colour and its place in the legend.
-SIDES = [('library', '#0b62c4', 540), ('reference', '#c2410c', 632), ('librpm', '#15803d', 743)]
+# Each with its words, its colour and its place in the legend.
+SIDES = [('library', 'library', '#0b62c4', 398), ('digest', 'of it the digest', '#7c3aed', 490),
+         ('reference', 'reference', '#c2410c', 636), ('librpm', 'librpm', '#15803d', 748)]
 FONT = "-apple-system, 'Segoe UI', 'Noto Sans', 'DejaVu Sans', Helvetica, Arial, sans-serif"
 
 
@@ -48,7 +49,7 @@ def panel(left, right, title, cases, marks, sides):
     for records in RECORDS:
         yield line(across(records), BOTTOM, across(records), BOTTOM + 5, '#9ca3af')
         yield text(across(records), BOTTOM + 21, str(records))
-    for side, colour, _ in reversed(sides):
+    for side, _, colour, _ in reversed(sides):
         times = [(across(int(case.name)), getattr(case, side)) for case in cases]
         low = [(x, up(time.low)) for x, time in times]
         high = [(x, up(time.high)) for x, time in times]
@@ -61,10 +62,10 @@ def panel(left, right, title, cases, marks, sides):
 
 
 def svg(panels):
-    """Panels are (title, cases); a case's name is its number of records."""
+    """Panels are (title, cases); a case's name is its number of records, the rest times of the sides."""
     sides = drawn(panels)
-    names = [side for side, _, _ in sides]
-    most = max(getattr(case, side).high for _, cases in panels for case in cases for side in names)
+    names = [words for _, words, _, _ in sides]
+    most = max(getattr(case, side[0]).high for _, cases in panels for case in cases for side in sides)
     marks = ticks(most / 1000)
     middle = (TOP + BOTTOM) / 2
     parts = [
@@ -75,9 +76,9 @@ def svg(panels):
         text(24, 34, 'Time of one reading', anchor='start', size=17, colour='#111827', more=' font-weight="600"'),
         text(22, middle, 'microseconds', more=f' transform="rotate(-90 22 {middle:.1f})"'),
     ]
-    for side, colour, x in sides:
+    for _, words, colour, x in sides:
         parts += [line(x, 29, x + 26, 29, colour, 2.2), f'<circle cx="{x + 13}" cy="29" r="3.2" fill="{colour}"/>']
-        parts.append(text(x + 33, 33.5, side, anchor='start', colour='#111827'))
+        parts.append(text(x + 33, 33.5, words, anchor='start', colour='#111827'))
     parts.append(text(PANELS[1][1], 54, 'median; the shade is the middle half', anchor='end', size=11.5))
     for (left, right), (title, cases) in zip(PANELS, panels):
         parts += panel(left, right, title, cases, marks, sides)

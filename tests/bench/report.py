@@ -20,27 +20,35 @@ import plot
 
 # The library's share of the reference that a reading may take.
 LIMIT = 1.2
+# The share of openssl's throughput that a digest must have.
+THROUGHPUT = 0.8
 DOCS = pathlib.Path('docs')
 BEGIN = '<!-- measured by tests/bench.sh --write: {} -->'
 END = '<!-- end of {} -->'
 
 # Quartiles: low, middle, high. Times are nanoseconds per call; count is instructions per call.
-# librpm is a time, and its ratio librpm / library; or both are the word why there is none.
+# The peer is librpm for readings and openssl for digests: a time, and its ratio to the library; or both are
+# the word why there is none. A digest is the case of a reading's digest alone, or None.
 Time = collections.namedtuple('Time', 'low middle high')
 Case = collections.namedtuple(
-    'Case', 'group name bytes signature records number place library reference ratio librpm librpm_ratio')
-Count = collections.namedtuple('Count', 'library reference librpm')
+    'Case', 'group name bytes signature records number place library reference ratio peer peer_ratio digest')
+Count = collections.namedtuple('Count', 'library reference peer')
+Drawn = collections.namedtuple('Drawn', 'name library digest reference librpm')
 
 # The header records of the table of instructions per record.
 PER_RECORD = ('64', '128', '256', '512')
 # In the first table: accepted packages of the test data with so many header records, and these.
 DATA_RECORDS = range(40, 81)
+DIGEST_OF = 'digest of '
 FIRST = ['64 records, rising tags', '512 records, rising tags', '64 records, 1 remark', '64 records, 4,096 remarks',
          '64 records, 585 doses', '64 records, 300 files', '64 records, 300 files, no book']
+# In the table of what the digest costs: accepted packages of the test data, and these.
+DIGESTED = ['64 records, rising tags', '512 records, rising tags', '64 records, 4,096 remarks', '64 records, 585 doses',
+            '64 records, 300 files']
 
 
 def read_times(folder):
-    """What is said of the run, and the cases."""
+    """What is said of the run, and the cases, readings with their digests."""
     run, cases = {}, []
     for line in (folder / 'times').read_text().splitlines():
         words = line.split('\t')
@@ -49,13 +57,15 @@ def read_times(folder):
             continue
         group, name, *whole = words[:7]
         times = [Time(*map(float, words[at:at + 3])) for at in (7, 10, 13)]
-        librpm = words[16:]
-        if len(librpm) == 1:
-            librpm = librpm * 2
+        peer = words[16:]
+        if len(peer) == 1:
+            peer = peer * 2
         else:
-            librpm = [Time(*map(float, librpm[at:at + 3])) for at in (0, 3)]
-        cases.append(Case(group, name, *map(int, whole), *times, *librpm))
-    return run, cases
+            peer = [Time(*map(float, peer[at:at + 3])) for at in (0, 3)]
+        cases.append(Case(group, name, *map(int, whole), *times, *peer, None))
+    digests = {(case.group, case.name): case for case in cases if case.group.startswith(DIGEST_OF)}
+    return run, [case._replace(digest=digests.get((DIGEST_OF + case.group, case.name)))
+                 for case in cases if not case.group.startswith(DIGEST_OF)]
 
 
 def read_counts(folder):
@@ -86,7 +96,7 @@ def micros(nanos):
     """Microseconds, three digits at least."""
     number = nanos / 1000
     places = 0 if number >= 100 else 1 if number >= 10 else 2 if number >= 1 else 3
-    return f'{number:.{places}f}'
+    return f'{number:,.{places}f}'
 
 
 def time_cell(time):
@@ -99,8 +109,23 @@ def middle_cell(time):
     return time if isinstance(time, str) else micros(time.middle)
 
 
-def ratio_cell(ratio):
-    return '' if isinstance(ratio, str) else f'{ratio.middle:.2f}'
+def apart(case):
+    """The library's time without that of the digest."""
+    return case.library.middle - (case.digest.library.middle if case.digest else 0)
+
+
+def digest_cell(case):
+    return micros(case.digest.library.middle) if case.digest else 'none'
+
+
+def librpm_ratio(case):
+    """librpm's time to the library's, the digest apart; None where librpm has no part."""
+    return None if isinstance(case.peer, str) else case.peer.middle / apart(case)
+
+
+def ratio_cell(case):
+    ratio = librpm_ratio(case)
+    return '' if ratio is None else f'{ratio:.2f}'
 
 
 def ratio_cells(case):
@@ -115,11 +140,25 @@ def count_cells(count):
     return [f'{count.library:,}', f'{count.reference:,}', f'{count.library / count.reference:.2f}']
 
 
-def librpm_count(case, counts):
+def peer_count(case, counts):
     count = counts.get((case.group, case.name))
-    if isinstance(case.librpm, str):
-        return case.librpm
-    return f'{count.librpm:,}' if count and count.librpm is not None else 'not counted'
+    if isinstance(case.peer, str):
+        return case.peer
+    return f'{count.peer:,}' if count and count.peer is not None else 'not counted'
+
+
+def digest_count(case, counts):
+    """The instructions of a reading's digest; 0 where the reading does not come to it."""
+    return counts[DIGEST_OF + case.group, case.name].library if case.digest else 0
+
+
+def digest_count_cell(case, counts):
+    return f'{digest_count(case, counts):,}' if counts else 'not counted'
+
+
+def apart_count(case, counts):
+    """The instructions of a reading without those of its digest."""
+    return counts[case.group, case.name].library - digest_count(case, counts)
 
 
 def answer_cell(case):
@@ -136,6 +175,10 @@ def wrapped(said):
     return '\n'.join(textwrap.wrap(said, 110))
 
 
+OF_IT = 'Of it the digest'
+APART = 'librpm / library, digest apart'
+
+
 def table(head, rows, left=1):
     """Text in the first columns, numbers in the others."""
     marks = ['---'] * left + ['---:'] * (len(head) - left)
@@ -144,22 +187,28 @@ def table(head, rows, left=1):
 
 def case_tables(what, cases, counts):
     """Times of the cases, then instructions; librpm only has readings."""
-    peer = any('reading' in case.group for case in cases)
+    reading = any('reading' in case.group for case in cases)
     times = [
-        [case.name, answer_cell(case), f'{case.bytes:,}', time_cell(case.library), time_cell(case.reference),
-         *ratio_cells(case), *([time_cell(case.librpm), ratio_cell(case.librpm_ratio)] if peer else [])]
+        [case.name, answer_cell(case), f'{case.bytes:,}', time_cell(case.library), *([digest_cell(case)] if reading else []),
+         time_cell(case.reference), *ratio_cells(case), *([time_cell(case.peer), ratio_cell(case)] if reading else [])]
         for case in cases
     ]
     instructions = [
-        [case.name, *count_cells(counts.get((case.group, case.name))),
-         *([librpm_count(case, counts)] if peer else [])]
+        [case.name, *with_digest(case, counts, reading), *([peer_count(case, counts)] if reading else [])]
         for case in cases
     ]
-    head = [what, 'Answer', 'Bytes', 'Library, µs', 'Reference, µs', 'Ratio of medians', 'Ratio by rounds']
-    yield table(head + ['librpm, µs', 'librpm / library'] * peer, times, left=2)
+    head = [what, 'Answer', 'Bytes', 'Library, µs', *([OF_IT + ', µs'] if reading else []), 'Reference, µs', 'Ratio of medians',
+            'Ratio by rounds']
+    yield table(head + ['librpm, µs', APART] * reading, times, left=2)
     if counts:
-        head = [what, 'Instructions, library', 'Reference', 'Ratio']
-        yield table(head + ['librpm'] * peer, instructions)
+        head = [what, 'Instructions, library', *([OF_IT] if reading else []), 'Reference', 'Ratio']
+        yield table(head + ['librpm'] * reading, instructions)
+
+
+def with_digest(case, counts, reading):
+    """Instructions; a reading's with those of its digest."""
+    library, *others = count_cells(counts.get((case.group, case.name)))
+    return [library, *([digest_count_cell(case, counts)] if reading else []), *others]
 
 
 # ---- Sections ----
@@ -175,6 +224,7 @@ def machine(run):
         ['System', f'{platform.system()} {platform.release().split("-")[0]}, {platform.machine()}'],
         ['Reference and bench', f'{first_line("rustc", "--version").split(" (")[0]}, opt-level 3'],
         ['librpm', run['librpm']],
+        ['openssl', run['openssl']],
         ['Instructions counted by', first_line('valgrind', '--version') or 'nothing: no valgrind there'],
         ['Day', datetime.datetime.now(datetime.timezone.utc).date().isoformat()],
         ['Batches', f'{run["batches"]} for each side of each case, each of {run["milliseconds"]} ms or more'],
@@ -189,29 +239,75 @@ def first(folder):
     data = [case for case in cases
             if case.group == 'data reading' and not case.number and case.records in DATA_RECORDS]
     rows = [
-        [name, answer_cell(case), micros(case.library.middle), micros(case.reference.middle),
-         middle_cell(case.librpm), ratio_cell(case.librpm_ratio)]
+        [name, answer_cell(case), micros(case.library.middle), digest_cell(case), micros(case.reference.middle),
+         middle_cell(case.peer), ratio_cell(case)]
         for name, case in [(f'{case.name}, {case.records} records', case) for case in data]
         + [(name, by_name[name]) for name in FIRST]
     ]
-    yield table(['One reading', 'Answer', 'Library, µs', 'Reference, µs', 'librpm, µs', 'librpm / library'], rows, left=2)
+    yield table(['One reading', 'Answer', 'Library, µs', OF_IT + ', µs', 'Reference, µs', 'librpm, µs', APART], rows, left=2)
     slower = [case for case in cases if case.ratio.middle > LIMIT]
     worst = max(cases, key=lambda case: case.ratio.middle)
-    quicker = [case for case in cases if not isinstance(case.librpm, str) and case.librpm_ratio.middle > 1]
-    peers = [case for case in cases if not isinstance(case.librpm, str)]
+    peers = [case for case in cases if case.group != 'digest' and librpm_ratio(case) is not None]
+    quicker = [case for case in peers if librpm_ratio(case) > 1]
     said = (f'Of {len(cases)} cases, {len(slower)} take over {LIMIT} times the reference\'s time; the highest ratio'
             f' by rounds is {worst.ratio.middle:.2f} ({worst.group}: {worst.name}).')
     if peers:
-        said += f' The library is quicker than librpm in {len(quicker)} of the {len(peers)} readings that librpm takes part in.'
+        said += (f' Its digest apart, the library is quicker than librpm in {len(quicker)} of the {len(peers)} readings that'
+                 ' librpm takes part in.')
     yield wrapped(said)
 
 
+def digest_tables(cases, counts):
+    """The digest by itself, and what of a reading it costs."""
+    digests = [case for case in cases if case.group == 'digest']
+    rows = [
+        [case.name, time_cell(case.library), time_cell(case.reference), time_cell(case.peer),
+         *(throughput_cell(case, time) for time in (case.library, case.reference, case.peer)),
+         share_cell(case), f'{THROUGHPUT}']
+        for case in digests
+    ]
+    yield table(['Bytes', 'Library, µs', 'Reference, µs', 'openssl, µs', 'Library, MB/s', 'Reference, MB/s', 'openssl, MB/s',
+                 'Library / openssl', 'Asked: at least'], rows)
+    if counts:
+        rows = []
+        for case in digests:
+            count = counts[case.group, case.name]
+            rows.append([case.name, *count_cells(count), peer_count(case, counts), f'{count.library / case.bytes:.2f}'])
+        yield table(['Bytes', 'Instructions, library', 'Reference', 'Ratio', 'openssl', 'Library, for each byte'], rows)
+    yield wrapped(DIGEST_SAID)
+    shown = [case for case in cases if case.group == 'reading' and case.name in DIGESTED]
+    shown += [case for case in cases if case.group == 'data reading' and case.digest]
+    rows = [
+        [case.name, f'{case.digest.bytes:,}', micros(case.library.middle), digest_cell(case), micros(apart(case)),
+         f'{100 * case.digest.library.middle / case.library.middle:.0f} %',
+         *([f'{counts[case.group, case.name].library:,}', digest_count_cell(case, counts),
+            f'{apart_count(case, counts):,}'] if counts else ['not counted'] * 3)]
+        for case in shown
+    ]
+    yield table(['One reading', 'Bytes digested', 'Whole, µs', 'Digest, µs', 'Digest apart, µs', "The digest's part of the time",
+                 'Whole, instructions', 'Digest', 'Digest apart'], rows)
+
+
+DIGEST_SAID = 'What a reading costs, and what of it the digest costs. Digest apart is the one less the other.'
+
+
+def throughput_cell(case, time):
+    """Millions of bytes a second."""
+    return time if isinstance(time, str) else f'{1000 * case.bytes / time.middle:,.0f}'
+
+
+def share_cell(case):
+    """The library's throughput as a share of openssl's, by rounds."""
+    ratio = case.peer_ratio
+    return ratio if isinstance(ratio, str) else f'{ratio.middle:.2f} ({ratio.low:.2f}–{ratio.high:.2f})'
+
+
 CHECK_13_SAID = (
-    'For each record, rising tags. What check 13 takes is counted for each record of the header but the first, which gets its'
-    ' tag, by two packages that are refused there: by check 13, which finds the tag in the first record and so has looked at'
-    ' all before it, and by check 12, right before check 13. The one less the other is check 13 for that record; the column'
-    ' has the sum. A tag that is found takes a little more than one that is not, 3 to 7 instructions a record when that was'
-    ' looked at (November 2026), and the rest is too low by so much.')
+    'For each record, rising tags, the digest apart. What check 13 takes is counted for each record of the header but the'
+    ' first, which gets its tag, by two packages that are refused there: by check 13, which finds the tag in the first record'
+    ' and so has looked at all before it, and by check 12, right before check 13. The one less the other is check 13 for that'
+    ' record; the column has the sum. A tag that is found takes a little more than one that is not, 3 to 7 instructions a'
+    ' record when that was looked at (November 2026), and the rest is too low by so much.')
 
 
 def check_13(case, counts):
@@ -228,8 +324,9 @@ def instructions(cases, counts):
     rising = [case for case in cases if case.group == 'growth rising']
     shown = [case for case in rising if case.name in PER_RECORD]
     part = {case.name: check_13(case, counts) for case in shown}
-    rest = {case.name: counts[case.group, case.name].library - part[case.name] for case in shown}
-    of = lambda name: counts['reading', f'64 records, {name}'].library
+    rest = {case.name: apart_count(case, counts) - part[case.name] for case in shown}
+    readings = {case.name: case for case in cases if case.group == 'reading'}
+    of = lambda name: apart_count(readings[f'64 records, {name}'], counts)
     asked = [
         ('64 records, rising tags, less check 13', rest['64'], 21_000),
         ('512 records, rising tags, less check 13', rest['512'], 75_000),
@@ -237,18 +334,18 @@ def instructions(cases, counts):
         ('585 doses, more than 24', of('585 doses') - of('rising tags'), 45_000),
         ('300 files, in all', of('300 files'), 120_000),
     ]
-    yield table(['One reading', 'Instructions', 'Asked: at most'],
+    yield table(['One reading, the digest apart', 'Instructions', 'Asked: at most'],
                 [[what, f'{count:,}', f'{most:,}'] for what, count, most in asked])
     rows, before = [], None
     for case in shown:
         step = (rest[case.name] - rest[before.name]) / (case.records - before.records) if before else None
         count = counts[case.group, case.name]
-        rows.append([case.name, f'{count.library:,}', f'{part[case.name]:,}', f'{rest[case.name]:,}',
-                     f'{rest[case.name] / case.records:.0f}', f'{step:.0f}' if before else '',
-                     librpm_count(case, counts)])
+        rows.append([case.name, f'{count.library:,}', digest_count_cell(case, counts), f'{part[case.name]:,}',
+                     f'{rest[case.name]:,}', f'{rest[case.name] / case.records:.0f}', f'{step:.0f}' if before else '',
+                     peer_count(case, counts)])
         before = case
     yield wrapped(CHECK_13_SAID)
-    yield table(['Records', 'Instructions', 'Check 13', 'The rest', 'The rest, for each record',
+    yield table(['Records', 'Instructions', 'Digest', 'Check 13', 'The rest', 'The rest, for each record',
                  'For each record more than above', 'librpm'], rows, left=0)
 
 
@@ -261,13 +358,13 @@ def growth_said(cases, order):
 
 def growth(cases, counts):
     rows = [
-        [case.name, f'{case.bytes:,}', time_cell(case.library), time_cell(case.reference),
-         f'{case.ratio.middle:.2f}', time_cell(case.librpm), ratio_cell(case.librpm_ratio),
-         *count_cells(counts.get((case.group, case.name))), librpm_count(case, counts)]
+        [case.name, f'{case.bytes:,}', time_cell(case.library), digest_cell(case), time_cell(case.reference),
+         f'{case.ratio.middle:.2f}', time_cell(case.peer), ratio_cell(case),
+         *with_digest(case, counts, True), peer_count(case, counts)]
         for case in cases
     ]
-    head = ['Records', 'Bytes', 'Library, µs', 'Reference, µs', 'Ratio by rounds', 'librpm, µs', 'librpm / library',
-            'Instructions, library', 'Reference', 'Ratio', 'librpm']
+    head = ['Records', 'Bytes', 'Library, µs', OF_IT + ', µs', 'Reference, µs', 'Ratio by rounds', 'librpm, µs', APART,
+            'Instructions, library', OF_IT, 'Reference', 'Ratio', 'librpm']
     return table(head, rows, left=0)
 
 
@@ -290,6 +387,8 @@ def rest(folder):
     run, cases = read_times(folder)
     counts = read_counts(folder)
     of = lambda group: [case for case in cases if case.group == group]
+    yield '## The digest'
+    yield from digest_tables(cases, counts)
     yield '## Instructions'
     yield from instructions(cases, counts)
     yield '## How the time of one reading grows\n\n![Time over header records](performance.svg)'
@@ -321,7 +420,8 @@ def write(folder):
         text = before + '\n\n'.join([begin, *part(folder), end]) + old.split(end)[1]
     page.write_text(text)
     cases = read_times(folder)[1]
-    panels = [(f'{order} tags', [case for case in cases if case.group == f'growth {order}'])
+    drawn = lambda case: Drawn(case.name, case.library, case.digest.library, case.reference, case.peer)
+    panels = [(f'{order} tags', [drawn(case) for case in cases if case.group == f'growth {order}'])
               for order in ('rising', 'shuffled')]
     (DOCS / 'performance.svg').write_text(plot.svg(panels))
 

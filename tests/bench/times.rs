@@ -1,10 +1,10 @@
-//! Times per call, in nanoseconds: batches of library, reference and librpm in turn. Time is
-//! the processor's time for this thread, so that other programs' turns don't count.
+//! Times per call, in nanoseconds: batches of library, reference and librpm or openssl in turn.
+//! Time is the processor's time for this thread, so that other programs' turns don't count.
 
 use std::hint::black_box;
 
 use crate::cases::{Buffer, Case, Side};
-use crate::librpm;
+use crate::{librpm, openssl};
 
 /// How long a batch takes at least.
 const BATCH: f64 = 1_500_000.0;
@@ -79,12 +79,14 @@ fn words(quartiles: &[[f64; 3]]) -> String {
 
 /// A line for each case: group, name, bytes, records of signature and header, answer's
 /// number and place, quartiles of the library's times, the reference's, and those of each
-/// round's ratio; then librpm's times and librpm's ratio to the library, or a word.
+/// round's ratio; then the times of the peer, librpm or openssl, and its ratio to the library,
+/// or a word.
 pub fn all(cases: &[Case]) {
     println!("pinned\t{}", if pin() { "yes" } else { "no" });
     println!("batches\t{ROUNDS}");
     println!("milliseconds\t{}", BATCH / 1e6);
     println!("librpm\t{}", librpm::version());
+    println!("openssl\t{}", openssl::version());
     let mut buffer = Buffer::new();
     let mut measured: Vec<Measured> = cases
         .iter()
@@ -111,7 +113,7 @@ struct Timed {
 struct Measured<'a> {
     case: &'a Case,
     answer: u64,
-    /// Library, reference, and librpm where it takes part.
+    /// Library, reference, and the peer where it takes part.
     sides: Vec<Timed>,
 }
 
@@ -139,12 +141,12 @@ impl<'a> Measured<'a> {
         }
     }
 
-    /// Why librpm takes no part.
+    /// Why the peer takes no part.
     fn absent(&self) -> &'static str {
-        match (librpm::LINKED, self.case.is_reading()) {
-            (false, _) => "missing",
-            (true, false) => "none",
-            (true, true) => "refused",
+        match (self.case.is_reading(), self.case.is_digest()) {
+            (true, _) if librpm::LINKED => "refused",
+            (false, false) => "none",
+            _ => "missing",
         }
     }
 
@@ -153,7 +155,7 @@ impl<'a> Measured<'a> {
         let times = |side: usize| &self.sides[side].times[..];
         let quarters = |side: usize| quartiles(times(side).to_vec());
         let ours = words(&[quarters(0), quarters(1), ratio(times(0), times(1))]);
-        let librpm = match self.sides.len() {
+        let peer = match self.sides.len() {
             2 => self.absent().to_string(),
             _ => words(&[quarters(2), ratio(times(2), times(0))]),
         };
@@ -161,6 +163,6 @@ impl<'a> Measured<'a> {
         let [signature, header] = case.records();
         let (number, place) = (self.answer >> 32, self.answer as u32);
         print!("{group}\t{name}\t{bytes}\t{signature}\t{header}\t");
-        println!("{number}\t{place}\t{ours}\t{librpm}");
+        println!("{number}\t{place}\t{ours}\t{peer}");
     }
 }

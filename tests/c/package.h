@@ -54,8 +54,11 @@ static void put(size_t at, uint32_t number)
         package[at + i] = (uint8_t)(number >> (24 - 8 * i));
 }
 
+/* Not every test makes packages or reads files. */
+#define UNUSED __attribute__((unused))
+
 /* A right lead, alone. */
-static void put_lead(void)
+UNUSED static void put_lead(void)
 {
     memset(package, 0, sizeof package);
     put(0, 0xEDABEEDB);
@@ -67,8 +70,8 @@ static void put_lead(void)
 }
 
 /* Writes a structure at the package's end. */
-static void put_structure(const uint32_t (*records)[4], size_t count, const void *store,
-                          size_t size)
+UNUSED static void put_structure(const uint32_t (*records)[4], size_t count,
+                                 const void *store, size_t size)
 {
     put(length, 0x8EADE801);
     put(length + 4, 0);
@@ -82,8 +85,7 @@ static void put_structure(const uint32_t (*records)[4], size_t count, const void
     length += size;
 }
 
-/* Not every test reads files. */
-__attribute__((unused)) static void read_package(const char *folder, const char *name)
+UNUSED static void read_package(const char *folder, const char *name)
 {
     char path[4096];
     snprintf(path, sizeof path, "%s/%s", folder, name);

@@ -104,7 +104,26 @@ static void write_structure(int structure)
     put_structure((const uint32_t(*)[4])records, counts[structure], store, size);
 }
 
-/* Writes the package; the signature's 1000 is length - H. */
+/* Where the signature's store has the data of a tag that has this type; 0 if it has none. */
+static uint32_t signature_data(uint32_t tag, uint8_t type)
+{
+    uint32_t store = 112 + 16 * (uint32_t)counts[SIGNATURE];
+    for (uint32_t at = 112; at < store; at += 16)
+        if (package[at + 2] == tag >> 8 && package[at + 3] == (uint8_t)tag &&
+            package[at + 7] == type)
+            return store + package[at + 11];
+    return 0;
+}
+
+/* Puts the right digest into the signature's 1004; digest_test.c tests it. */
+static void put_digest(void)
+{
+    uint32_t at = signature_data(1004, 7);
+    if (at != 0)
+        station_digest(package + h, length - h, package + at, 16);
+}
+
+/* Writes the package; the signature's 1000 is length - H, its 1004 the digest. */
 static void make(void)
 {
     put_lead();
@@ -113,9 +132,10 @@ static void make(void)
     length = h;
     write_structure(HEADER);
     length += payload;
-    for (uint32_t at = 112; at < 112 + 16 * counts[SIGNATURE]; at += 16)
-        if (package[at + 2] == 3 && package[at + 3] == 0xE8 && package[at + 7] == 4)
-            put(112 + 16 * counts[SIGNATURE] + package[at + 11], (uint32_t)length - h);
+    uint32_t at = signature_data(1000, 4);
+    if (at != 0)
+        put(at, (uint32_t)length - h);
+    put_digest();
 }
 
 /* The least package with one entry changed, absent or added. */
@@ -447,6 +467,66 @@ static void texts(void)
     refused_twice("directory without /", 18, 1118);
 }
 
+/* A bit turned over at a place; the answer is the same at both editions. */
+static void turned(const char *what, size_t at, uint32_t number)
+{
+    package[at] ^= 0x04;
+    if (number == 0) {
+        accepted(what, 1, 1, cobalt);
+        accepted(what, 2, 1, cobalt);
+    } else {
+        refused_twice(what, number, 1004);
+    }
+    package[at] ^= 0x04;
+}
+
+static void digests(void)
+{
+    static const uint8_t wrong[16] = {1};
+    least();
+    payload = 70;
+    make();
+    accepted("digest", 1, 1, cobalt);
+    accepted("digest", 2, 1, cobalt);
+    uint32_t stated = signature_data(1004, 7);
+    for (uint32_t i = 0; i < 16; i++)
+        turned("digest", stated + i, 27);
+    for (uint32_t i = 1; i <= 70; i++)
+        turned("payload", length - i, 27);
+    /* The weight is right before the payload, the book of 10 bytes before it, in 12. */
+    for (uint32_t i = 1; i <= 16; i++)
+        turned("book and weight", length - 70 - i, 27);
+    for (uint32_t at = 80; at < 96; at++)
+        turned("lead", at, 0);
+    for (uint32_t at = stated + 16; at < h; at++)
+        turned("gap", at, 0);
+
+    /* Without the last byte, from the payload on, from the lead on. */
+    station_digest(package + h, length - h - 1, package + stated, 16);
+    refused_twice("last byte left out", 27, 1004);
+    station_digest(package + length - 70, 70, package + stated, 16);
+    refused_twice("payload alone", 27, 1004);
+    station_digest(package, length, package + stated, 16);
+    refused_twice("whole file", 27, 1004);
+    put_digest();
+    accepted("right again", 2, 1, cobalt);
+
+    /* Between 18 and 19. */
+    with(HEADER, (struct entry)STRING(1021, "Linux"));
+    memcpy(package + signature_data(1004, 7), wrong, 16);
+    refused_twice("after the texts", 18, 1021);
+    with_book(zeros, 4097, 0);
+    memcpy(package + signature_data(1004, 7), wrong, 16);
+    refused_twice("before the book's length", 27, 1004);
+    with_book("\x96", 1, 0);
+    memcpy(package + signature_data(1004, 7), wrong, 16);
+    refused_twice("before the kinds", 27, 1004);
+    least();
+    make();
+    memcpy(package + signature_data(1004, 7), wrong, 16);
+    reading("before the room", 2, 7, 27, 1004, NULL);
+}
+
 static void other_writers(const char *folder)
 {
     static const char *const without_book[] = {"rb-one.rpm", "rb-deps.rpm",
@@ -483,6 +563,7 @@ int main(int count, char **words)
     groups();
     locales();
     texts();
+    digests();
     other_writers(words[1]);
     printf(PROGRAM ": %d answers right\n", asked);
     return 0;

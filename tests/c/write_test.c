@@ -128,22 +128,27 @@ static void smallest_package(void)
         0, 0, 0, 0, 0, 0, 0, 0, 0, 0, 0, 0, 0, 0, 0, 0,
         0, 0, 0, 0, 0, 0, 0, 0, 0, 0, 0, 0, 0, 1, 0, 5,
         0, 0, 0, 0, 0, 0, 0, 0, 0, 0, 0, 0, 0, 0, 0, 0,
-        /* 96: one record, 4 bytes of store; 1000, int32, at 0, count 1 */
-        0x8E, 0xAD, 0xE8, 0x01, 0, 0, 0, 0, 0, 0, 0, 1, 0, 0, 0, 4,
+        /* 96: two records, 20 bytes of store; 1000, int32, at 0, count 1; 1004, bin, at
+         * 4, count 16 */
+        0x8E, 0xAD, 0xE8, 0x01, 0, 0, 0, 0, 0, 0, 0, 2, 0, 0, 0, 20,
         0, 0, 0x03, 0xE8, 0, 0, 0, 4, 0, 0, 0, 0, 0, 0, 0, 1,
-        /* 128: 169 - 136; zero bytes to H */
-        0, 0, 0, 33, 0, 0, 0, 0,
+        0, 0, 0x03, 0xEC, 0, 0, 0, 7, 0, 0, 0, 4, 0, 0, 0, 16,
+        /* 144: 201 - 168; what md5sum says of the 33 bytes; zero bytes to H */
+        0, 0, 0, 33,
+        0x37, 0x75, 0xAF, 0x42, 0xF9, 0xDA, 0x38, 0x3F,
+        0x00, 0x79, 0xFC, 0x54, 0x07, 0x47, 0xC5, 0x0B,
+        0, 0, 0, 0,
     };
     static const uint8_t header[] = {
-        /* 136: one record, 1 byte of store; 1, char, at 0, count 1 */
+        /* 168: one record, 1 byte of store; 1, char, at 0, count 1 */
         0x8E, 0xAD, 0xE8, 0x01, 0, 0, 0, 0, 0, 0, 0, 1, 0, 0, 0, 1,
         0, 0, 0, 1, 0, 0, 0, 1, 0, 0, 0, 0, 0, 0, 0, 1,
         'x',
     };
     smallest();
-    memcpy(package, lead_and_signature, 136);
-    memcpy(package + 136, header, 33);
-    length = 169;
+    memcpy(package, lead_and_signature, 168);
+    memcpy(package + 168, header, 33);
+    length = 201;
     written("smallest");
 }
 
@@ -151,7 +156,7 @@ static void smallest_package(void)
 static void alignment(void)
 {
     static const uint32_t signature[][4] = {
-        {1000, 4, 0, 1}, {269, 6, 4, 1}, {1007, 4, 8, 1}};
+        {1000, 4, 0, 1}, {1004, 7, 4, 16}, {269, 6, 20, 1}, {1007, 4, 24, 1}};
     static const uint32_t header[][4] = {
         {1001, 6, 0, 1}, {1030, 3, 2, 2}, {7, 2, 6, 1}, {1000, 4, 8, 1}, {5, 8, 12, 3}};
     smallest();
@@ -166,9 +171,10 @@ static void alignment(void)
     add(HEADER, (struct entry){5, 8, 3, "tin\0\0lead", 10});
     put_lead();
     memcpy(package + 10, "glass", 5);
-    put_structure(signature, 3, "\0\0\0\166a\0\0\0\1\2\3\4", 12);
-    length = 176; /* the signature ends at 172 */
+    put_structure(signature, 4, "\0\0\0\166................a\0\0\0\1\2\3\4", 28);
+    length = 208; /* the signature ends at 204 */
     put_structure(header, 5, "\0\0\1\2\3\4\7\0\0\0\4\342tin\0\0lead", 22);
+    station_digest(package + 208, length - 208, package + 180, 16);
     written("alignment");
 }
 
@@ -189,7 +195,6 @@ static void whole_book(const char *path)
     smallest();
     set_name("book-1-1", 8);
     lists[HEADER].entries_len = lists[HEADER].data_len = 0;
-    add(SIGNATURE, least_signature[1]);
     for (size_t i = 0; i < sizeof least_header / sizeof least_header[0]; i++)
         add(HEADER, least_header[i]);
     uint64_t answer = call(buffer, sizeof buffer);
@@ -199,6 +204,10 @@ static void whole_book(const char *path)
     written("book");
 
     expect("book read", station_read(2, lend(), length, doses, sizeof doses), 0, 1);
+    expect("book read", station_read(1, lend(), length, doses, sizeof doses), 0, 1);
+    package[length - 5] ^= 1;
+    expect("bit turned over", station_read(1, lend(), length, doses, sizeof doses), 27, 1004);
+    package[length - 5] ^= 1;
     expect("size", station_find(lend(), length, 0, 1000, 4), 0, 144);
     expect("digest", station_find(lend(), length, 0, 1004, 7), 0, 148);
     /* H is 168, and the header has 37 records; "C" is first. */
@@ -250,28 +259,29 @@ static void wrong_entries(void)
 /* Several strings of type 9 are right in the header only. */
 static void translated(void)
 {
-    static const uint32_t own[][4] = {{1000, 4, 0, 1}};
+    static const uint32_t own[][4] = {{1000, 4, 0, 1}, {1004, 7, 4, 16}};
     static const uint32_t counts[] = {1, 2, 5};
     static const char strings[] = "\0Glas\0glass\0\0vidro";
     static const size_t sizes[] = {1, 6, 19};
     for (size_t i = 0; i < 3; i++) {
-        struct entry entry = {1004, 9, counts[i], strings, sizes[i]};
-        uint32_t records[][4] = {{1004, 9, 0, counts[i]}};
+        struct entry entry = {1005, 9, counts[i], strings, sizes[i]};
+        uint32_t records[][4] = {{1005, 9, 0, counts[i]}};
         smallest();
         lists[HEADER].entries_len = lists[HEADER].data_len = 0;
         add(HEADER, entry);
         put_lead();
         memcpy(package + 10, "b\0\0\0", 4);
-        put_structure(own, 1, "\0\0\0", 4);
-        length = 136;
+        put_structure(own, 2, "\0\0\0\0................", 20);
+        length = 168;
         put_structure((const uint32_t(*)[4])records, 1, strings, sizes[i]);
-        put(128, (uint32_t)length - 136);
+        put(144, (uint32_t)length - 168);
+        station_digest(package + 168, length - 168, package + 148, 16);
         written("translated string");
 
         smallest();
         add(SIGNATURE, entry);
         if (counts[i] == 1)
-            expect("one in the signature", call(package, 65536), 0, 185);
+            expect("one in the signature", call(package, 65536), 0, 217);
         else
             refused("translations in the signature");
     }
@@ -292,6 +302,18 @@ static void wrong_tags(void)
     smallest();
     add(SIGNATURE, (struct entry){1000, 4, 1, "\0\0\0\41", 4});
     refused("1000 in the signature");
+    smallest();
+    add(SIGNATURE, (struct entry){1004, 7, 16, zeros, 16});
+    refused("1004 in the signature");
+    add(SIGNATURE, (struct entry){1000, 4, 1, "\0\0\0\41", 4});
+    refused("1004 and 1000 in the signature");
+    smallest();
+    add(SIGNATURE, (struct entry){1004, 6, 1, "", 1});
+    refused("1004 of another type");
+    smallest();
+    add(HEADER, (struct entry){1004, 7, 1, "x", 1});
+    add(HEADER, (struct entry){1000, 7, 1, "x", 1});
+    expect("1004 and 1000 in the header", call(package, 65536), 0, 235);
 }
 
 static void wrong_names(void)
@@ -304,7 +326,7 @@ static void wrong_names(void)
     set_name(long_name, 66);
     refused("name of 66 bytes");
     set_name(long_name, 65);
-    expect("name of 65 bytes", call(package, 65536), 0, 169);
+    expect("name of 65 bytes", call(package, 65536), 0, 201);
     set_name("b", 2);
     refused("zero byte at the name's end");
     set_name("b\0k", 3);
@@ -336,12 +358,12 @@ static void ranges(void)
     refused("no entry in the header");
     smallest();
     add_chars(HEADER, 511);
-    holds("512 in the header", 136 + 16 + 512 * 17);
+    holds("512 in the header", 168 + 16 + 512 * 17);
     add(HEADER, (struct entry){5, 1, 1, "x", 1});
     refused("513 in the header");
     smallest();
-    add_chars(SIGNATURE, 511);
-    holds("512 in the signature", 8824 + 33);
+    add_chars(SIGNATURE, 510);
+    holds("512 in the signature", 8840 + 33);
     add(SIGNATURE, (struct entry){5, 1, 1, "x", 1});
     refused("513 in the signature");
 }
@@ -379,7 +401,7 @@ static void limit(void)
     static uint8_t data[65536];
     memset(data, 'd', sizeof data);
     for (uint32_t over = 0; over < 3; over++) {
-        uint32_t count = 65536 - 168 + over;
+        uint32_t count = 65536 - 200 + over;
         smallest();
         lists[HEADER].entries_len = lists[HEADER].data_len = 0;
         add(HEADER, (struct entry){20001, 7, count, data, count});

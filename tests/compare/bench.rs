@@ -119,6 +119,8 @@ pub struct Bench {
     pub numbers: BTreeMap<u32, usize>,
     /// The same for writings alone.
     pub writings: BTreeMap<u32, usize>,
+    /// The same for digests alone.
+    pub digests: BTreeMap<u32, usize>,
     /// How often 32 was the answer for a reason, where the reason is known.
     pub reasons: BTreeMap<&'static str, usize>,
 }
@@ -174,6 +176,7 @@ impl Bench {
             comparisons: 0,
             numbers: BTreeMap::new(),
             writings: BTreeMap::new(),
+            digests: BTreeMap::new(),
             reasons: BTreeMap::new(),
         };
         CURRENT.store(&mut *bench.current, Ordering::SeqCst);
@@ -251,6 +254,12 @@ impl Bench {
     pub fn agree_writing(&mut self, answer: Answer) {
         self.agree(answer);
         *self.writings.entry(answer.number()).or_default() += 1;
+    }
+
+    /// One more digest that agrees.
+    pub fn agree_digest(&mut self, answer: Answer) {
+        self.agree(answer);
+        *self.digests.entry(answer.number()).or_default() += 1;
     }
 
     /// One more refusal for this reason.

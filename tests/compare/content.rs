@@ -1,5 +1,7 @@
 //! What a package holds, as lists of items, and the least that is accepted.
 
+use std::ops::Range;
+
 use super::maker::{lead, size_of, Package, Structure};
 use super::random::Random;
 
@@ -66,6 +68,8 @@ pub struct Content {
     pub items: [Vec<Item>; 2],
     /// How far 1000 is from length − H.
     pub size_off: u32,
+    /// The bits in which 1004 is not the digest.
+    pub digest_off: u128,
     pub gap: u8,
     pub payload: Vec<u8>,
     /// 0: records in list order, data packed. Other numbers: each its own layout.
@@ -119,6 +123,7 @@ impl Content {
             lead: lead(),
             items: [signature, header],
             size_off: 0,
+            digest_off: 0,
             gap: 0,
             payload: Vec::new(),
             layout: 0,
@@ -143,8 +148,8 @@ impl Content {
     }
 
     pub fn package(&self) -> Package {
-        let mut signature = lay_out(&self.items[SIGNATURE], self.layout);
-        let header = lay_out(&self.items[HEADER], self.layout.rotate_left(32));
+        let mut signature = lay_out(&self.items[SIGNATURE], self.layout, &WRITTEN_LATER);
+        let header = lay_out(&self.items[HEADER], self.layout.rotate_left(32), &[]);
         let right = header.size() + self.payload.len();
         let size = self.size_off.wrapping_add(right as u32);
         for &[tag, ty, offset, _] in &signature.records {
@@ -153,13 +158,15 @@ impl Content {
                 signature.store[at..at + 4].copy_from_slice(&size.to_be_bytes());
             }
         }
-        Package {
+        let mut package = Package {
             lead: self.lead,
             signature,
             gap: self.gap,
             header,
             payload: self.payload.clone(),
-        }
+        };
+        package.put_digest(self.digest_off);
+        package
     }
 
     pub fn bytes(&self) -> Vec<u8> {
@@ -167,20 +174,26 @@ impl Content {
     }
 }
 
-/// Other layouts have filler before data, data that is shared, records in any order.
-fn lay_out(items: &[Item], layout: u64) -> Structure {
+/// Tags of the signature whose data is written when all else is laid out.
+const WRITTEN_LATER: [u32; 2] = [1000, 1004];
+
+/// Other layouts have filler before data, data that is shared, records in any order. The
+/// data of the tags in `own` isn't shared.
+fn lay_out(items: &[Item], layout: u64, own: &[u32]) -> Structure {
     let mut random = Random::new(layout);
     let mut free = |n| layout != 0 && random.one_in(n);
     let mut structure = Structure::default();
     let store = &mut structure.store;
-    // The first item's data isn't shared: the signature's 1000 is written later.
-    let mut own = 0;
-    for (position, item) in items.iter().enumerate() {
+    let mut kept: Vec<Range<usize>> = Vec::new();
+    for item in items {
         let align = size_of(item.ty).unwrap_or(1);
-        let shared = if position > 0 && free(3) {
-            (usize::next_multiple_of(own, align)..store.len())
-                .step_by(align)
-                .find(|&at| store[at..].starts_with(&item.data))
+        let is_own = own.contains(&item.tag);
+        let shared = if free(3) && !is_own {
+            let size = item.data.len();
+            (0..store.len()).step_by(align).find(|&at| {
+                let apart = |part: &Range<usize>| part.end <= at || at + size <= part.start;
+                store[at..].starts_with(&item.data) && kept.iter().all(apart)
+            })
         } else {
             None
         };
@@ -191,8 +204,8 @@ fn lay_out(items: &[Item], layout: u64) -> Structure {
             store.extend(&item.data);
             offset
         });
-        if position == 0 {
-            own = store.len();
+        if is_own {
+            kept.push(offset..store.len());
         }
         structure
             .records

@@ -25,6 +25,22 @@ const MAP_PRIVATE_ANONYMOUS: i32 = 0x22;
 pub const ROOM: usize = 1 << 20;
 const PAGE: usize = 4096;
 
+/// So many zero bytes, read-only; they take no memory.
+pub fn zeros(count: usize) -> &'static [u8] {
+    unsafe {
+        let all = mmap(
+            ptr::null_mut(),
+            count,
+            PROT_READ,
+            MAP_PRIVATE_ANONYMOUS,
+            -1,
+            0,
+        );
+        assert!(all as isize != -1, "mmap");
+        std::slice::from_raw_parts(all as *const u8, count)
+    }
+}
+
 pub struct Fence(*mut u8);
 
 impl Fence {

@@ -5,6 +5,10 @@
 //!     compare ask PACKAGE STRUCTURE TAG TYPE [ELEMENT]
 //!     compare read PACKAGE EDITION BUFFER-LENGTH
 //!     compare write REPORT-FILE BUFFER-LENGTH
+//!     compare digest FILE BUFFER-LENGTH
+//!     compare digests library|reference|makers FILE...
+//!     compare messages FOLDER
+//!     compare messages FILE COUNT SEED
 //!
 //! The reading is compared if `--cfg reading` is set.
 
@@ -12,6 +16,7 @@ mod bench;
 #[cfg(reading)]
 mod content;
 mod damage;
+mod digest;
 mod families;
 mod fence;
 #[cfg(reading)]
@@ -37,13 +42,15 @@ use random::Random;
 const NUMBERS: &[u32] = if cfg!(reading) {
     &[
         0, 1, 2, 3, 4, 5, 6, 7, 8, 9, 10, 11, 12, 13, 14, 15, 16, 17, 18, 19, 20, 21, 22, 23, 24, 25, 26,
-        32, 33, 34,
+        27, 32, 33, 34,
     ]
 } else {
     &[0, 2, 3, 4, 5, 6, 7, 8, 9, 10, 11, 12, 13, 25, 26, 32, 33, 34]
 };
 /// Those of the writer.
 const WRITING: [u32; 4] = [0, 32, 33, 34];
+/// Those of the digest call.
+const DIGEST: [u32; 2] = [0, 34];
 const LEAST_COMPARISONS: usize = 100_000;
 
 fn main() {
@@ -57,6 +64,15 @@ fn main() {
         }
         [write, report, room] if write == "write" => {
             writing::show(&std::fs::read(report).unwrap(), room.parse().unwrap());
+        }
+        [digest, message, room] if digest == "digest" => {
+            digest::show(&std::fs::read(message).unwrap(), room.parse().unwrap());
+        }
+        [digests, by, files @ ..] if digests == "digests" => digest::print(by, files),
+        [messages, folder] if messages == "messages" => digest::messages(Path::new(folder)),
+        [messages, file, count, seed] if messages == "messages" => {
+            let (count, seed) = (count.parse().unwrap(), seed.parse().unwrap());
+            digest::many(Path::new(file), count, seed);
         }
         [data, report] => all(Path::new(data), PathBuf::from(report)),
         [data, report, family] => {
@@ -96,6 +112,10 @@ fn run(bench: &mut Bench, data: &Path) -> usize {
     #[cfg(reading)]
     reading::all(bench, data);
     writing::all(bench);
+    digest::all(bench);
+    if bench.begins("digests that rpm wrote") {
+        real::stated_digests(bench, data);
+    }
     lines
 }
 
@@ -111,6 +131,7 @@ fn all(data: &Path, report: PathBuf) {
     );
     by_number("answers", NUMBERS, &bench.numbers);
     by_number("writings", &WRITING, &bench.writings);
+    by_number("digests", &DIGEST, &bench.digests);
     for reason in writing::REASONS {
         let count = bench.reasons.get(reason).unwrap_or(&0);
         println!("compare: lists refused with 32, {reason}: {count}");

@@ -1,5 +1,8 @@
 //! Makes packages from lists of entries.
 
+#[path = "md5.rs"]
+pub mod md5;
+
 /// The size of a type's elements; `None` for strings.
 pub fn size_of(ty: u32) -> Option<usize> {
     match ty {
@@ -63,6 +66,12 @@ impl Structure {
         16 + 16 * self.records.len() + self.store.len()
     }
 
+    pub fn bytes(&self) -> Vec<u8> {
+        let mut out = Vec::new();
+        self.write(&mut out);
+        out
+    }
+
     fn write(&self, out: &mut Vec<u8>) {
         out.extend([0x8E, 0xAD, 0xE8, 0x01, 0, 0, 0, 0]);
         out.extend((self.records.len() as u32).to_be_bytes());
@@ -97,6 +106,27 @@ pub fn lead() -> [u8; 96] {
     lead
 }
 
+/// Writes the right digest into a package's 1004, if it has both structures' places and a
+/// 1004 with room for it in the signature.
+pub fn repair_digest(bytes: &mut [u8]) -> Option<()> {
+    let number = |at: usize| {
+        let four = bytes.get(at..at + 4)?;
+        Some(u32::from_be_bytes(four.try_into().unwrap()) as usize)
+    };
+    let (nindex, hsize) = (number(S + 8)?, number(S + 12)?);
+    let store = S + 16 + 16 * nindex;
+    let end = store + hsize;
+    let digest = md5::md5(bytes.get(end.next_multiple_of(8)..)?);
+    let mut records = (S + 16..store).step_by(16);
+    let record = records.find(|&at| number(at) == Some(1004))?;
+    let at = store + number(record + 8)?;
+    let place = bytes.get_mut(at..at + 16)?;
+    if at + 16 <= end {
+        place.copy_from_slice(&digest);
+    }
+    Some(())
+}
+
 impl Package {
     pub fn of(signature: Structure, header: Structure) -> Package {
         Package {
@@ -113,6 +143,28 @@ impl Package {
         (S + self.signature.size()).next_multiple_of(8)
     }
 
+    /// The bytes from H to the end.
+    pub fn from_h(&self) -> Vec<u8> {
+        let mut out = self.header.bytes();
+        out.extend(&self.payload);
+        out
+    }
+
+    /// Writes the digest of the bytes from H into the signature's 1004, with these bits
+    /// turned over; where 1004 isn't bin of 16 bytes, nothing.
+    pub fn put_digest(&mut self, turned: u128) {
+        let right = u128::from_be_bytes(md5::md5(&self.from_h()));
+        let stated = (right ^ turned).to_be_bytes();
+        let Structure { records, store } = &mut self.signature;
+        let Some(record) = records.iter().find(|record| record[0] == 1004) else {
+            return;
+        };
+        let at = record[2] as usize;
+        if (record[1], record[3]) == (7, 16) && at + 16 <= store.len() {
+            store[at..at + 16].copy_from_slice(&stated);
+        }
+    }
+
     /// Both structures, each with its start.
     pub fn structures(&self) -> [(usize, &Structure); 2] {
         [(S, &self.signature), (self.h(), &self.header)]
@@ -122,8 +174,7 @@ impl Package {
         let mut out = self.lead.to_vec();
         self.signature.write(&mut out);
         out.resize(self.h(), self.gap);
-        self.header.write(&mut out);
-        out.extend(&self.payload);
+        out.extend(self.from_h());
         out
     }
 }

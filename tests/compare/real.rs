@@ -3,6 +3,7 @@
 use std::path::{Path, PathBuf};
 
 use crate::bench::{Answer, Bench, Question};
+use crate::digest;
 use crate::families::change;
 use crate::maker::S;
 use crate::questions::ask_record;
@@ -89,6 +90,22 @@ pub fn files(data: &Path) -> Vec<PathBuf> {
     files.sort();
     assert!(!files.is_empty(), "no package in tests/data");
     files
+}
+
+/// What rpm put into the signature's 1004 is the digest of the bytes from H on.
+pub fn stated_digests(bench: &mut Bench, data: &Path) {
+    let memory = &mut digest::Memory::new();
+    let mut desk = digest::Desk { bench, memory };
+    for file in files(data) {
+        let package = std::fs::read(file).unwrap();
+        let opened = reference::sound(&package).expect("a package");
+        let stated = reference::find(&package, 0, 1004, 7).expect("a digest");
+        let known = package[stated].try_into().expect("16 bytes");
+        desk.bench.package(&package[opened.header_start..]);
+        for room in 0..=40 {
+            desk.digest(room, known);
+        }
+    }
 }
 
 /// Every record, then the packages with bytes changed and cut off.

@@ -10,6 +10,10 @@ CHECK_16 = "    check(16, size == package.len() - opened.header_start, 1000)?;\n
 SIZE = "    let size = number(&signature, 1000) as usize;\n"
 GROUPS = "    contents::check_groups(&opened)?;\n"
 TEXTS = "    contents::check_texts(&header)?;\n"
+DIGEST = (
+    '    let stated = signature.data(signature.tagged(1004).expect("check 14 passed"));\n'
+    "    check(27, stated == md5(&package[opened.header_start..]), 1004)?;\n"
+)
 THE_BOOK = '    let book = header.data(header.tagged(BOOK).expect("check 14 passed"));\n'
 CHECK_19 = "    check(19, book.len() <= MAX_BOOK, BOOK as usize)?;\n"
 BOOK = "    let doses = book::doses(edition, book)?;\n"
@@ -360,8 +364,9 @@ FAULTS = [
     (18, "programs before the system", SYSTEM_TEXT + PROGRAM_TEXTS, PROGRAM_TEXTS + SYSTEM_TEXT),
     (18, "none tested", TEXTS, ""),
     (18, "before 17", GROUPS + TEXTS, TEXTS + GROUPS),
+    (18, "after 27", TEXTS + "\n" + DIGEST, DIGEST + TEXTS),
     (18, "after 19",
-     TEXTS + "\n" + THE_BOOK + CHECK_19, THE_BOOK + CHECK_19 + TEXTS),
+     TEXTS + "\n" + DIGEST + "\n" + THE_BOOK + CHECK_19, DIGEST + THE_BOOK + CHECK_19 + TEXTS),
 
     (19, "limit one too low", "MAX_BOOK: usize = 4096", "MAX_BOOK: usize = 4095"),
     (19, "limit one too high", "MAX_BOOK: usize = 4096", "MAX_BOOK: usize = 4097"),

@@ -4,7 +4,7 @@ the library, and sees that the comparison finds each. Run from the root:
 
     tests/faults/run.py [--alike] [--table FILE] [CHECK...]
 
-With checks (numbers, `package`, `buffer`, `demand3`, `writer`), only the faults of those.
+With checks (numbers, `package`, `buffer`, `demand3`, `digest`, `writer`), only the faults of those.
 With --alike the reference that is compared with gets the same fault, as if both
 had misread the paper: what is found then is found by what the maker of the
 packages knows, by demand 3, or by the reference's own samples. With --table the
@@ -22,6 +22,7 @@ import subprocess
 import sys
 import time
 
+import digest_faults
 import package_faults
 import reading_faults
 import writer_faults
@@ -31,7 +32,7 @@ REFERENCE = pathlib.Path("tests/reference")
 # Beside links to tests/compare and tests/data, which the samples include.
 COPY = OUT / "tests/reference"
 RUST = ["rustc", "--edition", "2021", "-A", "warnings", "-C", f"incremental={OUT / 'incremental'}"]
-FAULTS = package_faults.FAULTS + reading_faults.FAULTS + writer_faults.FAULTS
+FAULTS = package_faults.FAULTS + reading_faults.FAULTS + digest_faults.FAULTS + writer_faults.FAULTS
 
 CONTENT = "one damage to an accepted package"
 # The families to try for the writer's faults before all others.
@@ -44,7 +45,7 @@ FIRST = {
     1: "editions", 2: "sizes", 3: "cuts", 5: "cuts",
     14: CONTENT, 15: CONTENT, 16: CONTENT, 17: CONTENT, 18: CONTENT,
     19: "lengths of books", 20: "kinds", 21: "kinds", 22: "oxides and milligrams",
-    23: CONTENT, 24: "dose buffers", 25: "right packages", 26: "right packages",
+    23: CONTENT, 24: "dose buffers", 27: "digests of packages", "digest": "digests", 25: "right packages", 26: "right packages",
     "package": "right packages", "buffer": "dose buffers", "demand3": "kinds",
     33: "sizes of written packages", 34: "buffers to write to", "writer": "written packages",
 }
@@ -52,6 +53,7 @@ FIRST = {
 NEXT = {
     10: ["translated strings"], 12: ["translated strings"], 17: ["locales"],
     26: ["translated strings"], "demand3": ["locales"],
+    "digest": ["digest buffers", "large digests", "a digest of over 2^32 bits"],
 }
 SAMPLES = "the reference's own samples"
 

@@ -73,3 +73,15 @@ pub unsafe extern "C" fn station_write(
     let package = from_raw_parts_mut(package, package_len);
     reference::writer::write_for_c(name, signature, header, package)
 }
+
+#[no_mangle]
+pub unsafe extern "C" fn station_digest(
+    bytes: *const u8,
+    bytes_len: usize,
+    digest: *mut u8,
+    digest_len: usize,
+) -> u64 {
+    let bytes = from_raw_parts(bytes, bytes_len);
+    let digest = from_raw_parts_mut(digest, digest_len);
+    reference::digest::digest_for_c(bytes, digest)
+}

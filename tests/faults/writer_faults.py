@@ -17,6 +17,10 @@ NAME = (
     "    check(32, !name.contains(&0), 0)?;\n"
 )
 FIRST = "    first.put(SIGSIZE, &size);\n"
+SECOND = "    first.put(SIGMD5, &[0; DIGEST_SIZE]);\n"
+HEADER_WRITTEN = "    second.write(&mut package[header_start..]);\n"
+DIGEST = "    let digest = md5(&package[header_start..]);\n"
+SET_DIGEST = "    first.set(SIGMD5.tag, &digest);\n"
 SIGNATURE = "    first.put_list(signature, Part::Signature)?;\n"
 LAYOUT = (
     "    let mut second = Layout::default();\n"
@@ -24,7 +28,7 @@ LAYOUT = (
     "    // From H to the end there is the header alone.\n"
     "    let size = (second.size() as u32).to_be_bytes();\n"
     "    let mut first = Layout::default();\n"
-    + FIRST + SIGNATURE + "\n"
+    + FIRST + SECOND + SIGNATURE + "\n"
     "    let first_end = LEAD_SIZE + first.size();\n"
     "    let header_start = first_end.next_multiple_of(8);\n"
     "    let length = header_start + second.size();\n"
@@ -108,6 +112,19 @@ FAULTS = [
     (32, "first entry missed",
      "self.entries.iter().any(repeats)", "self.entries.iter().skip(1).any(repeats)"),
     (32, "caller's 1000 accepted", REPEATS, REPEATS + " && record.tag != 1000"),
+    (32, "caller's 1004 accepted", REPEATS, REPEATS + " && record.tag != 1004"),
+    (32, "caller's 1004 accepted with a right digest's size", REPEATS,
+     REPEATS + " && (record.tag, record.ty, record.count) != (1004, 7, 16)"),
+    (32, "caller's 1004 accepted as another type", REPEATS,
+     REPEATS + " && (record.tag != 1004 || record.ty == 7)"),
+    (32, "caller's 1000 and 1004 accepted", REPEATS,
+     REPEATS + " && !matches!(record.tag, 1000 | 1004)"),
+    (32, "1004 refused in the header",
+     REPEATED, REPEATED.replace("!self", "record.tag != 1004 && !self")),
+    (32, "1004 not counted", NINDEX,
+     NINDEX.replace("self.entries.len() +", "self.entries.len().min(1) +")),
+    (32, "511 of the caller's allowed", RANGE, RANGE.replace("MAX_NINDEX", "MAX_NINDEX + self.entries.len() / 2")),
+    (32, "510 of the caller's refused", RANGE, RANGE.replace("MAX_NINDEX", "MAX_NINDEX - self.entries.len() / 2")),
     (32, "same type as well", REPEATS, REPEATS + " && earlier.ty == record.ty"),
     (32, "tags must rise", REPEATS, "earlier.tag >= record.tag"),
     (32, "tags of 16 bits", REPEATS, "earlier.tag as u16 == record.tag as u16"),
@@ -115,9 +132,9 @@ FAULTS = [
      REPEATED, REPEATED.replace("!self", "record.tag != 1000 && !self")),
     (32, "place is the tag", "any(repeats), 0)", "any(repeats), record.tag as usize)"),
     (32, "range not tested", RANGE, ""),
-    (32, "1000 not counted", NINDEX,
+    (32, "1000 and 1004 not counted", NINDEX,
      "        let nindex = self.entries.len().max(list.entries.len() / ENTRY_SIZE);\n"),
-    (32, "1000 counted twice",
+    (32, "1000 and 1004 counted twice",
      NINDEX, NINDEX.replace("self.entries.len()", "2 * self.entries.len()")),
     (32, "513 allowed", RANGE, RANGE.replace("MAX_NINDEX", "513")),
     (32, "512 refused", RANGE, RANGE.replace("MAX_NINDEX", "511")),
@@ -187,7 +204,30 @@ FAULTS = [
      "second.size() as u32).to_be_bytes()", "second.size() as u32).to_le_bytes()"),
     ("writer", "1000 is bin",
      "ty: INT32,\n    offset: 0,\n    count: 1,", "ty: 7,\n    offset: 0,\n    count: 4,"),
-    ("writer", "1000 last", FIRST + SIGNATURE, SIGNATURE + FIRST),
+    ("writer", "1000 last", FIRST + SECOND + SIGNATURE, SECOND + SIGNATURE + FIRST),
+    ("writer", "1004 before 1000", FIRST + SECOND, SECOND + FIRST),
+    ("writer", "1004 last", SECOND + SIGNATURE, SIGNATURE + SECOND),
+    ("writer", "1004 left out", SECOND, ""),
+    ("writer", "1000 and 1004 last", FIRST + SECOND + SIGNATURE, SIGNATURE + FIRST + SECOND),
+    ("writer", "1000 and 1004 left out", FIRST + SECOND, ""),
+    ("writer", "1004 of zeros", SET_DIGEST, ""),
+    ("writer", "1004 is int8", "ty: BIN,\n    offset: 0,", "ty: 2,\n    offset: 0,"),
+    ("writer", "1004 of count 1", "count: DIGEST_SIZE as u32,", "count: 1,"),
+    ("writer", "1004 under 1005", "tag: 1004,\n    ty: BIN", "tag: 1005,\n    ty: BIN"),
+    ("writer", "digest of the whole package", DIGEST, DIGEST.replace("[header_start..]", "[..]")),
+    ("writer", "digest from the signature on", DIGEST, DIGEST.replace("header_start", "LEAD_SIZE")),
+    ("writer", "digest from the signature's end on", DIGEST, DIGEST.replace("header_start", "first_end")),
+    ("writer", "digest from the index on", DIGEST, DIGEST.replace("header_start", "header_start + 16")),
+    ("writer", "digest from the store on", DIGEST,
+     DIGEST.replace("header_start", "header_start + 16 + 16 * second.entries.len()")),
+    ("writer", "digest without the last byte", DIGEST, DIGEST.replace("..]", "..length - 1]")),
+    ("writer", "digest without the store", DIGEST, DIGEST.replace("..]", "..length - second.hsize]")),
+    ("writer", "digest before the header is written", HEADER_WRITTEN + DIGEST, DIGEST + HEADER_WRITTEN),
+    ("writer", "digest of the whole buffer", DIGEST,
+     DIGEST.replace("md5(&package[header_start..])", "{\n        let all = buffer.to_vec();\n"
+                    "        md5(&all[header_start..])\n    }") + "    let package = &mut buffer[..length];\n"),
+    ("writer", "digest in reverse", SET_DIGEST, "    let digest: Vec<u8> = digest.into_iter().rev().collect();\n" + SET_DIGEST),
+    ("writer", "digest's last byte left out", SET_DIGEST, SET_DIGEST.replace("&digest", "&digest[..15]")),
     ("writer", "1000 left out", FIRST, ""),
     ("writer", "not aligned", PLACE, "self.hsize"),
     ("writer", "int32 to 2", PLACE, "self.hsize.next_multiple_of(align.min(2))"),

@@ -7,7 +7,7 @@ use reference::catalogue::{Line, HEADER, SIGNATURE};
 use crate::entries::{any_data, any_text, data, extent, pack, position, put, put_line};
 use crate::entries::{set_data, set_number};
 use crate::input::{self, ASKED, FILL, ROOM};
-use crate::maker::{is_single, Package, Structure, S};
+use crate::maker::{is_single, repair_digest, Package, Structure, S};
 use crate::questions::EXTREMES;
 use crate::random::Random;
 
@@ -50,7 +50,12 @@ pub fn change(input: &mut Vec<u8>, random: &mut Random, most: usize) {
                 repair(&mut package, random, most);
                 *input = input::of_package(package.bytes());
             }
-            _ => change_bytes(input, random),
+            _ => {
+                change_bytes(input, random);
+                if !random.one_in(4) {
+                    put_digest(input);
+                }
+            }
         }
     }
     if random.one_in(2) {
@@ -451,8 +456,16 @@ fn repair_locales(header: &mut Structure, random: &mut Random) {
     }
 }
 
-/// Makes 1000 the length from H on and 20002 the sum of the doses, in most cases, and
-/// often the locales enough.
+/// Puts the right digest into an input's 1004, where it has one.
+pub fn put_digest(input: &mut [u8]) {
+    let mut package = input::package(input);
+    repair_digest(&mut package);
+    let length = input.len();
+    input.copy_from_slice(&package[..length]);
+}
+
+/// Makes 1000 the length from H on, 20002 the sum of the doses and 1004 the digest, in most
+/// cases, and often the locales enough.
 fn repair(package: &mut Package, random: &mut Random, most: usize) {
     if random.one_in(2) {
         repair_locales(&mut package.header, random);
@@ -473,5 +486,10 @@ fn repair(package: &mut Package, random: &mut Random, most: usize) {
     if !random.one_in(32) {
         let size = package.header.size() + package.payload.len();
         set_number(&mut package.signature, 1000, size as u32);
+    }
+    match random.below(32) {
+        0 => {}
+        1 => package.put_digest(1 << random.below(128)),
+        _ => package.put_digest(0),
     }
 }

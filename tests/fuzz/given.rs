@@ -6,13 +6,14 @@ use crate::entries::extent;
 use crate::input;
 use crate::maker::Structure;
 use crate::random::Random;
-use crate::writing::lists::{data, numbers, Entry, Lent, Lists, HEADER, NAME, SIGNATURE};
+use crate::writing::lists::{data, numbers, Entry, Lent, Lists, HEADER, NAME, OWN, SIGNATURE};
 
 const LIMIT: usize = 65_536;
 /// Bytes of data that are taken for one list, at most.
 const MOST_DATA: usize = 1 << 17;
 
-/// Name and entries of a package, as far as it has them; the signature's 1000 is left out.
+/// Name and entries of a package, as far as it has them; the signature's 1000 and 1004 are
+/// left out.
 pub fn of_package(package: &[u8]) -> Lists {
     let name = package.iter().skip(10).take(66);
     let name = name.take_while(|&&byte| byte != 0).copied().collect();
@@ -20,7 +21,7 @@ pub fn of_package(package: &[u8]) -> Lists {
         [entries(&parts.signature), entries(&parts.header)]
     });
     let mut lists = Lists { name, entries };
-    lists.entries[SIGNATURE].retain(|entry| entry.tag != 1000);
+    lists.entries[SIGNATURE].retain(|entry| !OWN.contains(&entry.tag));
     lists
 }
 
@@ -91,7 +92,8 @@ fn change_list(entries: &mut Vec<Entry>, random: &mut Random) {
     let (one, two) = (random.below(len.max(1)), random.below(len + 1));
     match random.below(8) {
         0 => entries.clear(),
-        1 | 2 => entries.insert(two, Entry::new(1000, 4, 1, vec![0; 4])),
+        1 => entries.insert(two, Entry::new(1000, 4, 1, vec![0; 4])),
+        2 => entries.insert(two, Entry::bin(1004, vec![0; 16])),
         _ if len == 0 => {}
         3 => entries.insert(two, entries[one].clone()),
         4 => drop(entries.remove(one)),
@@ -123,7 +125,7 @@ fn change_entry(entries: &mut [Entry], random: &mut Random) {
     let entry = &mut entries[at];
     let (len, any) = (entry.data.len(), random.below(12) as u32);
     match random.below(7) {
-        0 => entry.tag = random.pick(&[other, 1000, other ^ 1 << 16, entry.tag ^ 1]),
+        0 => entry.tag = random.pick(&[other, 1000, 1004, other ^ 1 << 16, entry.tag ^ 1]),
         1 => entry.ty = [any, near(random, entry.ty)][random.below(2)],
         2 => entry.count = near(random, entry.count),
         3 => entry.size = near(random, entry.size),
@@ -160,7 +162,7 @@ pub fn large(mut lists: Lists, length: usize, random: &mut Random) -> Lent {
 /// A list of about 512 entries.
 pub fn many(mut lists: Lists, random: &mut Random) -> Lent {
     let entries = &mut lists.entries[random.pick(&[SIGNATURE, HEADER])];
-    let (count, tag) = (510 + random.below(4), random.number());
+    let (count, tag) = (509 + random.below(5), random.number());
     let entry = |n| Entry::new(tag.wrapping_add(n as u32), 2, 1, vec![0]);
     entries.extend((entries.len()..count).map(entry));
     lists.lent()

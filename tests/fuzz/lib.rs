@@ -11,6 +11,9 @@ pub mod target;
 #[allow(dead_code)]
 #[path = "../compare/bench.rs"]
 mod bench;
+#[allow(dead_code)]
+#[path = "../compare/digest.rs"]
+mod digest;
 #[path = "../compare/fence.rs"]
 mod fence;
 #[allow(dead_code)]

@@ -6,7 +6,7 @@ use std::ptr::{addr_of_mut, null_mut};
 use std::slice::{from_raw_parts, from_raw_parts_mut};
 use std::sync::atomic::{AtomicPtr, Ordering};
 
-use fuzz::change::{change, cross};
+use fuzz::change::{change, cross, put_digest};
 use fuzz::random::Random;
 use fuzz::target::{Target, SORTS};
 
@@ -64,7 +64,11 @@ pub unsafe extern "C" fn LLVMFuzzerCustomMutator(
 ) -> usize {
     let mut random = Random::new(seed.into());
     if random.one_in(6) {
-        return LLVMFuzzerMutate(data, size, most);
+        let size = LLVMFuzzerMutate(data, size, most);
+        if !random.one_in(4) {
+            put_digest(from_raw_parts_mut(data, size));
+        }
+        return size;
     }
     let mut input = from_raw_parts(data, size).to_vec();
     change(&mut input, &mut random, most);

@@ -13,7 +13,7 @@ import sys
 
 sys.dont_write_bytecode = True
 sys.path.insert(0, str(pathlib.Path(__file__).resolve().parents[2] / 'tools'))
-from make_samples import accepted as right, put, word  # noqa: E402
+from make_samples import BOOK, BOOK_DIGEST, accepted as right, put, turned, word  # noqa: E402
 from rpmfile import BIN, CHAR, I18N, INT16, INT32, INT8, STRING, STRINGS  # noqa: E402
 
 FOLDER = pathlib.Path('tests/fuzz/corpus')
@@ -114,6 +114,7 @@ LOCALES = {
 TWO = (I18N, [b'one', b'two'])
 OLD_NAMES = {tag: entry for tag, entry in FILES.items() if tag < 1116} | {1027: (STRINGS, [b'/a', b'/srv/b', b'/c'])}
 FULL = 1 << 16
+NO_DIGEST = {1004: (BIN, bytes(16))}
 
 SEEDS = {
     'accepted_both_dose': both(RIGHT, '0@1'),
@@ -138,7 +139,7 @@ SEEDS = {
     'accepted_edition_2_tolerance': (right(TOLERATED), '20@0', '0@1'),
     'accepted_edition_2_all_kinds': (right(PAGE + DOSE + DATE + TOLERATED), '20@15', '0@2'),
     'accepted_edition_1_no_weight': (right(DOSE, drop=[20002]), '0@1', '14@20002'),
-    'check02_limit': both(ask(right(DOSE, signature={1000: (INT32, [FULL - H])}), fill=FULL - len(RIGHT)), '0@1'),
+    'check02_limit': both(short(right(DOSE, payload=bytes(FULL - len(RIGHT)))), '0@1'),
     'check02_one_more': both(ask(RIGHT, fill=FULL + 1 - len(RIGHT)), '2@0'),
     'check03_95_bytes': both(RIGHT[:95], '3@95'),
     'check04_major': both(put(4, b'\x04', RIGHT), '4@4'),
@@ -185,6 +186,12 @@ SEEDS = {
     'check18_program': wrong_entry('18@1087', 1087, STRING, b'/bin/bash'),
     'check18_index': wrong_entry('18@1116', 1116, INT32, [1]),
     'check18_folder': wrong_entry('18@1118', 1118, STRINGS, [b'/usr/share']),
+    'check27_dose': both(turned(BOOK, DOSE, 2), '27@1004'),
+    'check27_payload': both(turned(BOOK, b'payload'), '27@1004'),
+    'check27_digest': both(turned(BOOK, BOOK_DIGEST), '27@1004'),
+    'check27_after_system': both(right(DOSE, header={1021: (STRING, b'linuxx')}, signature=NO_DIGEST), '18@1021'),
+    'check27_before_kind_96': both(right(bytes([0x96]), signature=NO_DIGEST), '27@1004'),
+    'check27_no_weight': (right(DOSE, drop=[20002], signature=NO_DIGEST), '27@1004', '14@20002'),
     'check19_4097_bytes': both(short(right(DOSE + bytes(4090), batch=0)), '19@20001'),
     'check20_kind_96': book('96', '20@0'),
     'check21_page': book('86 001B 000004E2 02 00', '21@7'),

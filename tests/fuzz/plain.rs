@@ -18,16 +18,17 @@ use fuzz::target::{Target, ASKED, SORTS};
 const MOST_BYTES: usize = 8192;
 
 /// Numbers that can be the answer, for each of `ASKED`.
-fn possible() -> [Vec<usize>; 5] {
+fn possible() -> [Vec<usize>; 6] {
     let but = |most: usize, not: &[usize]| (0..=most).filter(|n| !not.contains(n)).collect();
     [
-        but(24, &[1, 23]),
-        but(24, &[1]),
+        but(27, &[1, 23, 25, 26]),
+        but(27, &[1, 25, 26]),
         vec![1],
         (0..=26)
             .filter(|n| !(14..=24).contains(n) && *n != 1)
             .collect(),
         vec![0, 32, 33, 34],
+        vec![0, 34],
     ]
 }
 

@@ -3,9 +3,10 @@
 use std::path::PathBuf;
 
 use crate::bench::{Answer, Bench};
+use crate::digest;
 use crate::given;
 use crate::input::{self, Asked};
-use crate::maker::S;
+use crate::maker::{md5::md5, S};
 use crate::questions::ask_record;
 use crate::random::Random;
 use crate::reading::{demand3, desk::Desk};
@@ -21,13 +22,15 @@ const LIMIT: u32 = 20;
 /// Entries times bytes of a package that goes the round trip, at most.
 const ROUND_TRIP: usize = 1 << 18;
 
-/// Who answered: a reading at edition 1, at edition 2, at another, a look-up, a writing.
+/// Who answered: a reading at edition 1, at edition 2, at another, a look-up, a writing, a
+/// digest.
 #[rustfmt::skip]
-pub const ASKED: [&str; 5] = [
-    "edition 1", "edition 2", "other editions", "look-ups", "writings",
+pub const ASKED: [&str; 6] = [
+    "edition 1", "edition 2", "other editions", "look-ups", "writings", "digests",
 ];
 const LOOK_UP: usize = 3;
 const WRITING: usize = 4;
+const DIGEST: usize = 5;
 const NUMBERS: usize = 35;
 const PLACES: usize = 256;
 /// How many sorts of answer are told apart.
@@ -36,11 +39,12 @@ pub const SORTS: usize = ASKED.len() * NUMBERS * PLACES;
 pub struct Target {
     desk: Desk<'static>,
     memory: Memory,
+    digests: digest::Memory,
     /// How many packages were written, read and written again.
     round_trips: usize,
     /// How often each number was the answer, by who answered.
     pub numbers: [[usize; NUMBERS]; ASKED.len()],
-    /// The sorts of answer that the last input got; not those of writings.
+    /// The sorts of answer that the last input got; not those of writings and digests.
     pub sorts: Vec<usize>,
 }
 
@@ -52,7 +56,7 @@ fn sort(who: usize, answer: Answer) -> usize {
         _ if who == LOOK_UP => 0,
         3 => 0,
         5..=13 => place / 128,
-        14..=18 => place % 251,
+        14..=18 | 27 => place % 251,
         _ => place,
     };
     (who * NUMBERS + answer.number() as usize) * PLACES + place.min(PLACES - 1)
@@ -69,6 +73,7 @@ impl Target {
         Target {
             desk: Desk::new(bench),
             memory: Memory::new(),
+            digests: digest::Memory::new(),
             round_trips: 0,
             numbers: [[0; NUMBERS]; ASKED.len()],
             sorts: Vec::new(),
@@ -76,8 +81,8 @@ impl Target {
     }
 
     /// Reads at editions 1 and 2 with room and with the asked buffer, and at the
-    /// asked edition; looks up what is asked and what stands in the index; writes what
-    /// the input gives.
+    /// asked edition; asks for the package's digest; looks up what is asked and what stands in
+    /// the index; writes what the input gives.
     /// A difference ends the program.
     pub fn run(&mut self, bytes: &[u8]) -> [Answer; 2] {
         let asked = Asked::of(bytes);
@@ -99,6 +104,8 @@ impl Target {
             self.note(2, read.answer);
         }
 
+        self.digest(&asked, &package);
+
         let answer = self.desk.bench.ask_both(asked.question, None);
         self.note(LOOK_UP, answer);
         let mut random = Random::new(asked.seed);
@@ -111,6 +118,15 @@ impl Target {
         }
         self.write_all(&asked, &package);
         answers
+    }
+
+    /// The package's digest, in a buffer of a length near 16.
+    fn digest(&mut self, asked: &Asked, package: &[u8]) {
+        let bench = &mut *self.desk.bench;
+        let memory = &mut self.digests;
+        let mut desk = digest::Desk { bench, memory };
+        let answer = desk.digest(asked.room(16), md5(package));
+        self.note(DIGEST, answer);
     }
 
     /// Writes the lists of a package, the same with one thing otherwise, and others.
@@ -155,11 +171,11 @@ impl Target {
         length
     }
 
-    /// A written package passes checks 2 to 13, and 16.
+    /// A written package passes checks 2 to 13, 16 and 27.
     fn read_written(&mut self, package: &[u8]) {
         self.desk.bench.package(package);
         for answer in self.desk.both(ROOM, None) {
-            if matches!(answer.number(), 2..=13 | 16) {
+            if matches!(answer.number(), 2..=13 | 16 | 27) {
                 let difference = format!("library {answer}: what it wrote");
                 self.desk.bench.fail(&difference);
             }
@@ -168,7 +184,7 @@ impl Target {
 
     fn note(&mut self, who: usize, answer: Answer) {
         self.numbers[who][answer.number() as usize] += 1;
-        if who != WRITING {
+        if who < WRITING {
             self.sorts.push(sort(who, answer));
         }
     }

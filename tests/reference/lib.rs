@@ -2,8 +2,8 @@
 //!
 //! Written from the papers alone, to be compared with the proved library.
 //! The order is the paper's: here lead, header structure, checks 2 to 13 and
-//! look-ups; then catalogue.rs, contents.rs (groups and texts), book.rs, and
-//! reading.rs, where all checks come together; last writer.rs (document 02).
+//! look-ups; then catalogue.rs, contents.rs (groups and texts), digest.rs (RFC 1321),
+//! book.rs, and reading.rs, where all checks come together; last writer.rs (document 02).
 //! Each check stands as `check(NUMBER, what must hold, place)`.
 
 use std::ops::Range;
@@ -11,9 +11,12 @@ use std::ops::Range;
 pub mod book;
 pub mod catalogue;
 mod contents;
+pub mod digest;
 pub mod reading;
 pub mod writer;
 
+#[cfg(test)]
+mod digest_samples;
 #[cfg(test)]
 mod reading_samples;
 #[cfg(test)]

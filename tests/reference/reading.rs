@@ -1,8 +1,9 @@
-//! The reading: checks 1 to 24, the dose buffer in both forms, and what the
+//! The reading: checks 1 to 24 and 27, the dose buffer in both forms, and what the
 //! program prints.
 
 use super::book::{self, Dose, MAX_BOOK};
 use super::catalogue::{self, BATCH_WEIGHT, BOOK};
+use super::digest::md5;
 use super::{check, contents, sound, Checked, Structure};
 
 /// The package's doses, where a buffer has room for this many numbers.
@@ -23,6 +24,9 @@ fn doses(edition: u32, package: &[u8], room: usize) -> Checked<Vec<Dose>> {
     // Checks 17 and 18.
     contents::check_groups(&opened)?;
     contents::check_texts(&header)?;
+
+    let stated = signature.data(signature.tagged(1004).expect("check 14 passed"));
+    check(27, stated == md5(&package[opened.header_start..]), 1004)?;
 
     let book = header.data(header.tagged(BOOK).expect("check 14 passed"));
     check(19, book.len() <= MAX_BOOK, BOOK as usize)?;

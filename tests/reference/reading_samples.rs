@@ -4,6 +4,8 @@ use super::catalogue::{Count, Line, Status, HEADER, SIGNATURE};
 use super::reading::{printed, read, read_for_c};
 use super::samples::content::{self, bin, strings, words, Content, Item};
 use super::samples::lines;
+use super::samples::maker::md5::md5;
+use super::samples::put;
 use super::*;
 
 type Doses<'a> = &'a [[u32; 2]];
@@ -572,6 +574,132 @@ fn text_rules() {
     for (count, place) in [(1, 1118), (2, 1116), (3, 1088), (4, 1085), (5, 1021)] {
         assert_eq!(with(&all[..count]), refused(18, place));
     }
+}
+
+// ---- The digest ----
+
+/// The least package with this dose and a payload.
+fn with_dose() -> Content {
+    let mut content = Content::least(&bytes("86 00 1B 00 00 04 E2"), 1250);
+    content.payload = b"payload".to_vec();
+    content
+}
+
+/// Both editions' answers to a package with one byte changed.
+fn with_byte(package: &[u8], at: usize, bit: u8) -> [Checked<Vec<[u32; 2]>>; 2] {
+    let mut package = package.to_vec();
+    package[at] ^= bit;
+    [1, 2].map(|edition| doses(edition, &package))
+}
+
+#[test]
+fn digest_covers_header_and_payload() {
+    let content = with_dose();
+    let package = content.bytes();
+    let h = content.package().h();
+    let wrong = [refused(27, 1004), refused(27, 1004)];
+    let right = [Ok(vec![[27, 1250]]), Ok(vec![[27, 1250]])];
+    assert_eq!([1, 2].map(|edition| doses(edition, &package)), right);
+    let data = |structure, tag, ty| find(&package, structure, tag, ty).unwrap();
+
+    // The dose, the batch weight, a text, the payload, the digest itself.
+    let parts = [
+        data(1, 20001, 7),
+        data(1, 20002, 4),
+        data(1, 1001, 6),
+        package.len() - 7..package.len(),
+        data(0, 1004, 7),
+    ];
+    for part in parts {
+        // A string keeps its zero byte.
+        for at in part.filter(|&at| package[at] != 0) {
+            assert_eq!(with_byte(&package, at, 0x40), wrong);
+        }
+    }
+    // An entry's offset: that of 1036 becomes 1035's, whose data is the same.
+    let records = sound(&package).unwrap().header;
+    let record = |tag| records.tagged(tag).unwrap().offset;
+    let place = records.records().position(|one| one.tag == 1036).unwrap();
+    let mut moved = package.clone();
+    put(&mut moved, h + 16 + 16 * place + 8, record(1035));
+    assert_eq!(doses(2, &moved), refused(27, 1004));
+
+    // Lead, gap and the rest of the signature don't count.
+    for at in [8, 9, 11, 80, 95] {
+        assert_eq!(with_byte(&package, at, 0x40), right);
+    }
+    assert_eq!(h, 168);
+    for at in 164..h {
+        assert_eq!(with_byte(&package, at, 0x40), right);
+    }
+    let mut content = content;
+    content.put(S, bin(1002, b"xyz"));
+    let package = content.bytes();
+    let at = find(&package, 0, 1002, 7).unwrap().start;
+    assert_eq!(with_byte(&package, at, 0x40), right);
+}
+
+#[test]
+fn digests_of_other_bytes() {
+    let content = with_dose();
+    let package = content.bytes();
+    let h = content.package().h();
+    let store = h + 16 + 16 * content.items[H].len();
+    let at = find(&package, 0, 1004, 7).unwrap();
+    for other in [
+        &package[..],
+        &package[96..],
+        &package[h - 4..],
+        &package[h + 16..],
+        &package[store..],
+        &package[h..package.len() - 7],
+        &package[h..package.len() - 1],
+    ] {
+        let mut package = package.clone();
+        package[at.clone()].copy_from_slice(&md5(other));
+        for edition in [1, 2] {
+            assert_eq!(doses(edition, &package), refused(27, 1004));
+        }
+    }
+}
+
+#[test]
+fn digest_after_18_before_19() {
+    let wrong_digest = |items: &[(usize, Item)]| {
+        let mut content = with_dose();
+        content.digest_off = 1;
+        for (structure, item) in items {
+            content.put(*structure, item.clone());
+        }
+        content
+    };
+    let answer = |content: Content| {
+        let package = content.bytes();
+        let answer = doses(2, &package);
+        assert_eq!(doses(1, &package), answer);
+        answer
+    };
+    let book = |book: &[u8]| answer(wrong_digest(&[(H, bin(20001, book))]));
+    assert_eq!(answer(wrong_digest(&[])), refused(27, 1004));
+    // Before it.
+    let mut content = wrong_digest(&[]);
+    content.size_off = 1;
+    assert_eq!(answer(content), refused(16, 1000));
+    let dsa = (S, bin(1011, &[1]));
+    assert_eq!(answer(wrong_digest(&[dsa])), refused(17, 1005));
+    let system = (H, strings(1021, 6, &["x"]));
+    assert_eq!(answer(wrong_digest(&[system])), refused(18, 1021));
+    let name = (H, strings(1118, 8, &["/srv"]));
+    assert_eq!(answer(wrong_digest(&[name])), refused(18, 1118));
+    // Behind it: 19 to 23, and 24.
+    assert_eq!(book(&[0; 4097]), refused(27, 1004));
+    assert_eq!(book(&[0x96]), refused(27, 1004));
+    assert_eq!(book(&[0x02]), refused(27, 1004));
+    assert_eq!(book(&[0x86, 0, 0, 0, 0, 0, 0]), refused(27, 1004));
+    let weight = (H, words(20002, &[1251]));
+    assert_eq!(answer(wrong_digest(&[weight])), refused(27, 1004));
+    let package = wrong_digest(&[]).bytes();
+    assert_eq!(read(2, &package, &mut []), refused(27, 1004));
 }
 
 // ---- The dose buffer ----

@@ -44,7 +44,7 @@ fn refusal(package: &[u8]) -> Checked<()> {
     sound(package).map(|_| ())
 }
 
-fn put(package: &mut [u8], at: usize, number: u32) {
+pub(super) fn put(package: &mut [u8], at: usize, number: u32) {
     package[at..at + 4].copy_from_slice(&number.to_be_bytes());
 }
 

@@ -1,8 +1,9 @@
 //! The writer: a package from a name and two lists of entries (checks 32 to 34).
 
+use super::digest::{md5, DIGEST_SIZE};
 use super::{
-    be32, check, elements, Checked, Elements, Part, Record, HEADER_RECORD_SIZE, INDEX_RECORD_SIZE,
-    INT32, LEAD_SIZE, MAX_NINDEX, MAX_PACKAGE,
+    be32, check, elements, Checked, Elements, Part, Record, BIN, HEADER_RECORD_SIZE,
+    INDEX_RECORD_SIZE, INT32, LEAD_SIZE, MAX_NINDEX, MAX_PACKAGE,
 };
 
 /// Bytes of an entry in a list: tag, type, count, size of its data.
@@ -14,6 +15,13 @@ const SIGSIZE: Record = Record {
     ty: INT32,
     offset: 0,
     count: 1,
+};
+/// Its second, the writer's own: the MD5 of the bytes from H on.
+const SIGMD5: Record = Record {
+    tag: 1004,
+    ty: BIN,
+    offset: 0,
+    count: DIGEST_SIZE as u32,
 };
 
 /// A list of entries as it is lent: their numbers, and their data in a row.
@@ -86,6 +94,15 @@ impl<'a> Layout<'a> {
         check(32, rest.is_empty(), 0)
     }
 
+    /// Gives an entry other data of the same size.
+    fn set(&mut self, tag: u32, data: &'a [u8]) {
+        for (record, old) in &mut self.entries {
+            if record.tag == tag {
+                *old = data;
+            }
+        }
+    }
+
     fn size(&self) -> usize {
         HEADER_RECORD_SIZE + INDEX_RECORD_SIZE * self.entries.len() + self.hsize
     }
@@ -128,6 +145,7 @@ pub fn write(name: &[u8], signature: List, header: List, buffer: &mut [u8]) -> C
     let size = (second.size() as u32).to_be_bytes();
     let mut first = Layout::default();
     first.put(SIGSIZE, &size);
+    first.put(SIGMD5, &[0; DIGEST_SIZE]);
     first.put_list(signature, Part::Signature)?;
 
     let first_end = LEAD_SIZE + first.size();
@@ -139,8 +157,10 @@ pub fn write(name: &[u8], signature: List, header: List, buffer: &mut [u8]) -> C
     let package = &mut buffer[..length];
     package.fill(0);
     write_lead(&mut package[..LEAD_SIZE], name);
-    first.write(&mut package[LEAD_SIZE..first_end]);
     second.write(&mut package[header_start..]);
+    let digest = md5(&package[header_start..]);
+    first.set(SIGMD5.tag, &digest);
+    first.write(&mut package[LEAD_SIZE..first_end]);
     Ok(length as u32)
 }
 

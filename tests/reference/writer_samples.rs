@@ -1,6 +1,8 @@
 //! Samples for the writer, with what is written spelled out.
 
-use super::samples::content::{bin, shorts, strings, words, Item};
+use super::reading::read;
+use super::samples::content::{bin, shorts, strings, words, Content, Item, HEADER};
+use super::samples::maker::md5::md5;
 use super::writer::{write, write_for_c, List};
 use super::*;
 
@@ -71,9 +73,10 @@ fn chars(count: u32) -> Vec<Item> {
     (1..=count).map(char).collect()
 }
 
-/// The smallest package: a name of one byte, 1000 alone, one byte of data.
+/// The smallest package: a name of one byte, 1000 and 1004 alone, one byte of data. Its digest
+/// is md5sum's.
 #[rustfmt::skip]
-const SMALLEST: [u8; 169] = [
+const SMALLEST: [u8; 201] = [
     // The lead: magic, 3.0, type 0, architecture 0, the name "b".
     0xED, 0xAB, 0xEE, 0xDB, 3, 0, 0, 0, 0, 0, b'b', 0, 0, 0, 0, 0,
     0, 0, 0, 0, 0, 0, 0, 0, 0, 0, 0, 0, 0, 0, 0, 0,
@@ -82,28 +85,33 @@ const SMALLEST: [u8; 169] = [
     // System 1 and signature type 5 at 76.
     0, 0, 0, 0, 0, 0, 0, 0, 0, 0, 0, 0, 0, 1, 0, 5,
     0, 0, 0, 0, 0, 0, 0, 0, 0, 0, 0, 0, 0, 0, 0, 0,
-    // 96, the signature: one record, 4 bytes of store; 1000, int32, at 0, count 1.
-    0x8E, 0xAD, 0xE8, 0x01, 0, 0, 0, 0, 0, 0, 0, 1, 0, 0, 0, 4,
+    // 96, the signature: two records, 20 bytes of store; 1000, int32, at 0, count 1; 1004,
+    // bin, at 4, count 16.
+    0x8E, 0xAD, 0xE8, 0x01, 0, 0, 0, 0, 0, 0, 0, 2, 0, 0, 0, 20,
     0, 0, 0x03, 0xE8, 0, 0, 0, 4, 0, 0, 0, 0, 0, 0, 0, 1,
-    // 128: 169 - 136 is 33. Then zero bytes to H = 136.
-    0, 0, 0, 33, 0, 0, 0, 0,
-    // 136, the header: one record, 1 byte of store; tag 1, char, at 0, count 1.
+    0, 0, 0x03, 0xEC, 0, 0, 0, 7, 0, 0, 0, 4, 0, 0, 0, 16,
+    // 144: 201 - 168 is 33. The digest of the last 33 bytes, then zero bytes to H = 168.
+    0, 0, 0, 33,
+    0x37, 0x75, 0xAF, 0x42, 0xF9, 0xDA, 0x38, 0x3F,
+    0x00, 0x79, 0xFC, 0x54, 0x07, 0x47, 0xC5, 0x0B,
+    0, 0, 0, 0,
+    // 168, the header: one record, 1 byte of store; tag 1, char, at 0, count 1.
     0x8E, 0xAD, 0xE8, 0x01, 0, 0, 0, 0, 0, 0, 0, 1, 0, 0, 0, 1,
     0, 0, 0, 1, 0, 0, 0, 1, 0, 0, 0, 0, 0, 0, 0, 1,
-    // 168.
+    // 200.
     b'x',
 ];
 
 #[test]
 fn smallest_package() {
-    for room in [169, 170, 171, 300] {
+    for room in [201, 202, 203, 300] {
         let (answer, buffer) = written(b"b", &[], &[char(1)], room);
-        assert_eq!(answer, Ok(169));
-        assert_eq!(buffer[..169], SMALLEST);
-        assert_eq!(buffer[169..], vec![7; room - 169]);
+        assert_eq!(answer, Ok(201));
+        assert_eq!(buffer[..201], SMALLEST);
+        assert_eq!(buffer[201..], vec![7; room - 201]);
     }
-    for room in [0, 1, 95, 96, 168] {
-        assert_eq!(written(b"b", &[], &[char(1)], room), refused(34, 169, room));
+    for room in [0, 1, 95, 96, 169, 200] {
+        assert_eq!(written(b"b", &[], &[char(1)], room), refused(34, 201, room));
     }
 }
 
@@ -124,16 +132,17 @@ fn data_in_list_order() {
     let (answer, package) = written(&[b'n'; 65], &signature, &header, ROOM);
     let length = answer.unwrap() as usize;
     assert_eq!(package[10..76], [[b'n'; 65].as_slice(), &[0]].concat());
-    // 1000, then 1007 at 4, 1 at 6 and 2 at 8: 12 bytes of store.
-    let store = 96 + 16 + 4 * 16;
+    // 1000, 1004 at 4, then 1007 at 20, 1 at 22 and 2 at 24: 28 bytes of store.
+    let store = 96 + 16 + 5 * 16;
     assert_eq!(
-        package[store + 4..store + 12],
+        package[store + 20..store + 28],
         *b"q\0\x01\x02\x03\x04\x05\x06"
     );
-    // The end is at 188, so H is at 192.
-    let h = 192;
+    // The end is at 220, so H is at 224.
+    let h = 224;
     assert_eq!(be32(&package, store), (length - h) as u32);
-    assert_eq!(package[store + 12..h], [0; 4]);
+    assert_eq!(package[store + 4..store + 20], md5(&package[h..length]));
+    assert_eq!(package[store + 28..h], [0; 4]);
     let store = h + 16 + 5 * 16;
     let right = b"a\0\0bc\0\0\0\0\0\0\x01\0\0\0\x02\0\0\0\x03\0";
     assert_eq!(package[store..length], *right);
@@ -145,17 +154,23 @@ fn data_in_list_order() {
 
 #[test]
 fn read_back() {
-    let signature = [bin(1004, &[9; 16]), strings(1010, 6, &["x"])];
-    let header = [char(3), words(1000, &[1]), strings(2, 9, &["ab", "", "c"])];
+    let signature = [bin(1005, &[9; 16]), strings(1010, 6, &["x"])];
+    let header = [
+        char(3),
+        words(1000, &[1]),
+        strings(2, 9, &["ab", "", "c"]),
+        char(1004),
+    ];
     let (answer, buffer) = written(b"book", &signature, &header, ROOM);
     let package = &buffer[..answer.unwrap() as usize];
     let opened = sound(package).unwrap();
     assert_eq!(opened.payload, package.len());
     let tags = |structure: Structure| structure.records().map(|one| one.tag).collect::<Vec<_>>();
-    assert_eq!(tags(opened.signature), [1000, 1004, 1010]);
-    assert_eq!(tags(opened.header), [3, 1000, 2]);
-    let size = (package.len() - opened.header_start) as u32;
-    let given = [words(1000, &[size])].into_iter().chain(signature);
+    assert_eq!(tags(opened.signature), [1000, 1004, 1005, 1010]);
+    assert_eq!(tags(opened.header), [3, 1000, 2, 1004]);
+    let from_h = &package[opened.header_start..];
+    let own = [words(1000, &[from_h.len() as u32]), bin(1004, &md5(from_h))];
+    let given = own.into_iter().chain(signature);
     for (structure, item) in given
         .map(|item| (0, item))
         .chain(header.map(|item| (1, item)))
@@ -165,11 +180,32 @@ fn read_back() {
     }
 }
 
+/// A book that was written passes check 27; with one bit turned over it doesn't.
+#[test]
+fn digest_of_a_book() {
+    let header = &Content::least(&[0], 0).items[HEADER];
+    let (answer, buffer) = written(b"book", &[], header, ROOM);
+    let package = &buffer[..answer.unwrap() as usize];
+    let refused = Err(Refusal {
+        number: 27,
+        place: 1004,
+    });
+    for edition in [1, 2] {
+        assert_eq!(read(edition, package, &mut []), Ok(0));
+        // The digest's first and last byte, the batch weight, a byte before it.
+        for at in [148, 163, package.len() - 4, package.len() - 5] {
+            let mut wrong = package.to_vec();
+            wrong[at] ^= 1;
+            assert_eq!(read(edition, &wrong, &mut []), refused);
+        }
+    }
+}
+
 #[test]
 fn names() {
     for name in [&b"b"[..], &[0xFF; 65]] {
         let (answer, _) = written(name, &[], &[char(1)], ROOM);
-        assert_eq!(answer, Ok(169));
+        assert_eq!(answer, Ok(201));
     }
     for name in [
         &b""[..],
@@ -232,28 +268,39 @@ fn entries() {
         let several = with(9, count, &b"x\0".repeat(count as usize));
         is_32(&[several.clone()], &[char(1)]);
         let (answer, _) = written(b"b", &[], &[several], ROOM);
-        assert_eq!(answer, Ok(168 + 2 * count));
+        assert_eq!(answer, Ok(200 + 2 * count));
     }
     let (answer, _) = written(b"b", &[with(9, 1, b"x\0")], &[char(1)], ROOM);
-    assert_eq!(answer, Ok(185));
+    assert_eq!(answer, Ok(217));
     // Repeated tags; those of the other structure don't count.
     is_32(&[], &[char(1), char(2), char(1)]);
     is_32(&[char(1), char(1)], &[char(1)]);
-    is_32(&[char(1000)], &[char(1)]);
-    is_32(&[char(1), words(1000, &[33])], &[char(1)]);
-    let (answer, _) = written(b"b", &[char(1)], &[char(1000), char(1)], ROOM);
-    assert_eq!(answer, Ok(202));
+    for own in [
+        char(1000),
+        words(1000, &[33]),
+        char(1004),
+        bin(1004, &[0; 16]),
+    ] {
+        is_32(&[own.clone()], &[char(1)]);
+        is_32(&[char(1), own], &[char(1)]);
+    }
+    is_32(&[words(1000, &[33]), bin(1004, &[0; 16])], &[char(1)]);
+    let header = [char(1000), char(1004), char(1)];
+    let (answer, _) = written(b"b", &[char(1)], &header, ROOM);
+    // The signature ends at 181, the header has 16 + 3 * 17 bytes.
+    assert_eq!(answer, Ok(184 + 67));
 }
 
 #[test]
 fn ranges() {
     let length = |signature, header| written(b"b", &chars(signature), &chars(header), ROOM).0;
-    assert_eq!(length(0, 512), Ok(136 + 16 + 17 * 512));
-    // The signature ends at 8,819.
-    assert_eq!(length(511, 1), Ok(8824 + 33));
+    assert_eq!(length(0, 512), Ok(168 + 16 + 17 * 512));
+    // The signature ends at 8,834.
+    assert_eq!(length(510, 1), Ok(8840 + 33));
     is_32(&[], &[]);
     is_32(&chars(3), &[]);
     is_32(&[], &chars(513));
+    is_32(&chars(511), &[char(1)]);
     is_32(&chars(512), &[char(1)]);
     is_32(&chars(60_000), &chars(60_000));
 }
@@ -294,9 +341,9 @@ fn ill_formed_lists() {
 
 #[test]
 fn the_limit() {
-    // 136 + 32 bytes before the data.
+    // 168 + 32 bytes before the data.
     let with = |count: usize| [bin(1, &vec![1; count])];
-    let full = 65_536 - 168;
+    let full = 65_536 - 200;
     assert_eq!(written(b"b", &[], &with(full), ROOM).0, Ok(65_536));
     assert_eq!(written(b"b", &[], &with(full), 65_536).0, Ok(65_536));
     for room in [0, 1, 65_535] {

@@ -4,7 +4,7 @@ use mathlib.Core.Path.{_≡_, sym, subst, _∙_}
 use mathlib.Core.Logic.{_↔_, Iff·rfl, Iff·trans}
 use mathlib.Core.List.{List}
 use mathlib.Core.Bool.{true}
-use lib.ListN.{length}
+use lib.ListN.{length, drop}
 use native.Mathlib.Omega.{arith}
 use borrow.Author.Tests.{leb-true, le-leb}
 use Rattle.format.specs.declared.section.Structure.the-variants.{Signature, Header}
@@ -15,6 +15,7 @@ use Rattle.structure.specs.Structure.{sectionAt}
 use Rattle.format.specs.Places.{alignUp}
 use Rattle.package.specs.Package.{headerStart, signatureAt, headerAt}
 use Rattle.rules.specs.Rules.{rulesOver, rulesCheck}
+use Rattle.md5.specs.Md5.{digest}
 use Rattle.book.specs.Doses.{doses, sumOf}
 use Rattle.book.specs.RowTheorems.{HoldDoses}
 use Rattle.book.proofs.RowTheorems.{known-hold}
@@ -22,7 +23,7 @@ use Rattle.reading.specs.Editions.{Edition, editionOf, batchTag, hasBatch}
 use Rattle.reading.specs.Reading.{editionCheck, bookIn, bookOf, needed, roomCheck, bookPart, openedCheck, checksAt}
 use Rattle.reading.specs.Reading.{readingCheck}
 use Rattle.reading.specs.Buffers.{roomIn}
-use Rattle.demands.specs.Lawful.{NumberIs, FirstMultiple, LawfulLead, LawfulStructure, LawfulLines}
+use Rattle.demands.specs.Lawful.{NumberIs, DataIs, FirstMultiple, LawfulLead, LawfulStructure, LawfulLines}
 use Rattle.demands.specs.Lawful.{LawfulGroups, LawfulTexts, LawfulBook, LawfulPackage}
 use Rattle.demands.specs.Demands.{Demand2}
 use Rattle.reading.proofs.AnswerLaws.{done}
@@ -30,8 +31,10 @@ use Rattle.demands.proofs.PassIff.{check-iff, last-iff, both-iff, then-
 use Rattle.demands.proofs.PackageLawful.{sound-lawful}
 use Rattle.demands.proofs.FoundLawful.{Apart}
 use Rattle.demands.proofs.LineLawful.{lines-lawful}
-use Rattle.demands.proofs.NumberLawful.{Keeps, size-there, states-there, locales-there, batch-there, text-lines}
+use Rattle.demands.proofs.NumberLawful.{Keeps, size-there, digest-there, states-there, locales-there, batch-there}
+use Rattle.demands.proofs.NumberLawful.{text-lines}
 use Rattle.demands.proofs.NumberLawful.{size-lawful, batch-lawful}
+use Rattle.demands.proofs.DigestLawful.{digest-lawful}
 use Rattle.demands.proofs.GroupLawful.{groups-lawful, directories-there}
 use Rattle.demands.proofs.TextLawful.{texts-lawful}
 use Rattle.demands.proofs.BookLawful.{book-lawful, book-sum}
@@ -54,6 +57,9 @@ module _ (edition : Edition) (s : List ℕ) where
       LawfulLines edition s (signatureAt s) (sectionAt s start)
       × (NumberIs s (signatureAt s) 1000 (length s - start)
       × (LawfulGroups s (signatureAt s) (sectionAt s start) × LawfulTexts s (sectionAt s start)))
+
+  abbrev Digested : ℕ → Type 0
+  Digested start = DataIs s (signatureAt s) 1004 (digest (drop start s))
 
   abbrev Weighed : ℕ → ℕ → Type 0
   Weighed room start =
@@ -96,22 +102,24 @@ module _ (edition : Edition) (s : List ℕ) where
       then-iff _ _ (batch-lawful s H lawful edition sum there) λ batch.
       room-lawful room
 
-  -- 2 to 24
+  -- 2 to 24, and 27
   abbrev Blocks : ℕ → ℕ → Type 0
   Blocks room start =
       ((length s ≤ packageLimit) × (leadSize ≤ length s) × LawfulLead s × LawfulStructure Signature s leadSize
       × LawfulStructure Header s start)
-      × (Ruled start × Weighed room start)
+      × (Ruled start × (Digested start × Weighed room start))
 
   blocks-lawful : Keeps edition → HoldDoses (edition .known) → (room : ℕ) → (checksAt edition s room ≡ Pass) ↔ Blocks room H
   unfolding checksAt openedCheck
   blocks-lawful keeps hold room =
       then-iff _ _ (sound-lawful s) λ sound.
       then-iff _ _ (rules-lawful H keeps (sound .3 .tags) (sound .4)) λ rules.
+      let stated = digest-there edition s (signatureAt s) (headerAt s) (rules .0) keeps in
+      then-iff _ _ (digest-lawful s leadSize (sound .3) (headerAt s) stated) λ digested.
       part-lawful hold room (sound .4) (rules .0)
 
   blocks-package : HoldDoses (edition .known) → (room : ℕ) → Blocks room H → LawfulPackage edition s
-  blocks-package hold room (sound, (rules, part)) =
+  blocks-package hold room (sound, (rules, (digested, part))) =
       record {
         most = sound .0;
         least = sound .1;
@@ -124,6 +132,7 @@ module _ (edition : Edition) (s : List ℕ) where
         payload = rules .1 .0;
         groups = rules .1 .1 .0;
         texts = rules .1 .1 .1;
+        digested = digested;
         book = part .0;
         batch = λ h i l t. part .1 .0 h i l t ∙ book-sum (edition .known) hold (bookOf s) (part .0);
       }
@@ -131,12 +140,25 @@ module _ (edition : Edition) (s : List ℕ) where
   package-blocks : HoldDoses (edition .known) → (room : ℕ) → needed (bookOf s) ≤ room → (r : LawfulPackage edition s) → Blocks room (r .H)
   package-blocks hold room fits r = (
     (r .most, r .least, r .lead, r .signature, r .header),
-    ((r .lines, (r .payload, (r .groups, r .texts))), (r .book, (λ h i l t. r .batch h i l t ∙ sym (book-sum (edition .known) hold (bookIn s (sectionAt s (r .H))) (r .book)), fits))),
+    (
+      (r .lines, (r .payload, (r .groups, r .texts))),
+      (
+        r .digested,
+        (
+          r .book,
+          (
+            λ h i l t.
+                r .batch h i l t ∙ sym (book-sum (edition .known) hold (bookIn s (sectionAt s (r .H))) (r .book)),
+            fits,
+          ),
+        ),
+      ),
+    ),
   )
 
   package-lawful : HoldDoses (edition .known) → (room : ℕ) → Blocks room H ↔ (LawfulPackage edition s × (needed (bookOf s) ≤ room))
   package-lawful hold room = (
-    λ b. (blocks-package hold room b, b .1 .1 .1 .1),
+    λ b. (blocks-package hold room b, b .1 .1 .1 .1 .1),
     λ (r, fits).
         subst (Blocks room) (start-only (sectionEnd (signatureAt s)) (r .H) (r .place)) (package-blocks hold room fits r),
   )

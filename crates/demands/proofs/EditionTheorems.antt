@@ -17,10 +17,12 @@ use Rattle.catalogue.specs.Catalogue.{lineAt, signatureCount, lineCount}
 use Rattle.index.specs.Lookup.{taggedIn}
 use Rattle.lines.specs.Lines.{linesFrom, linesCheck}
 use Rattle.rules.specs.Rules.{rulesOver, rulesCheck}
+use Rattle.verify.specs.Digests.{digestCheck}
 use Rattle.book.specs.Book.{places, bookCheck}
 use Rattle.book.specs.Doses.{doses, sumOf}
 use Rattle.reading.specs.Editions.{Edition, Extends, hasBatch, batchTag, batchLine}
 use Rattle.reading.specs.Reading.{bookOf, weightIn, sumCheck, bookPart, openedCheck, checksAt}
+use Rattle.reading.proofs.AnswerLaws.{pass-book}
 use Rattle.demands.specs.Demands.{First, NoneLacks, lackingIn, ByAdded, ExtendingAgrees}
 use Rattle.demands.proofs.AgreementLaws.{Agree, same-first, agree-both}
 use Rattle.demands.proofs.BookAgreement.{records-agree, passed-none}
@@ -95,7 +97,7 @@ module _ (earlier later : Edition) (extends : Extends earlier later) (b : List �
   unfolding bookPart
   part-agrees s header room = run _ _ _ _ book-agrees (run _ _ _ _ (sum-agrees s header (sumOf (doses b))) (inl refl))
 
--- 2 to 24
+-- 2 to 24, and 27, which names no edition
 checks-agree : (earlier later : Edition) → Extends earlier later → (s : List ℕ) (room : ℕ)
     → Alike earlier later (bookOf s) (checksAt earlier s room) (checksAt later s room)
 unfolding checksAt openedCheck
@@ -103,14 +105,15 @@ checks-agree earlier later extends s room =
     same-first (Stops earlier (bookOf s)) (ByAdded earlier later) (soundCheck s) _ _
     (run earlier later extends (bookOf s) _ _ _ _
     (rules-agree earlier later extends (bookOf s) s (length s) (signatureAt s) (headerAt s))
-    (part-agrees earlier later extends (bookOf s) s (headerAt s) room))
+    (same-first (Stops earlier (bookOf s)) (ByAdded earlier later) (digestCheck s (signatureAt s) (headerAt s)) _ _
+    (part-agrees earlier later extends (bookOf s) s (headerAt s) room)))
 
 -- a reading that passed lacks no kind of its book
 pass-lacks-none : (edition : Edition) (s : List ℕ) (room : ℕ) → checksAt edition s room ≡ Pass
     → lackingIn edition (bookOf s) ≡ NoneLacks
-unfolding checksAt openedCheck bookPart bookCheck
+unfolding bookPart bookCheck
 pass-lacks-none edition s room h =
-    let k = both-inverted _ _ (both-inverted _ _ (both-inverted _ _ h .1) .1) in
+    let k = both-inverted _ _ (pass-book edition s room h) in
     passed-none (edition .known) (bookOf s) (places (bookOf s)) (both-inverted _ _ (k .0) .1)
 
 -- a refusal by an added line is no pass

@@ -19,6 +19,7 @@ pub mod PackageLawful
 pub mod RowLawful
 pub mod TextLawful
 pub mod NumberLawful
+pub mod DigestLawful
 pub mod Demand2
 pub mod BothLaws
 pub mod RowStated

@@ -1,4 +1,4 @@
--- Tags that the lines require are present: size-there, states-there, batch-there; those of check 18 are strings:
+-- Tags that the lines require are present: size-there, digest-there, states-there, batch-there; those of check 18 are strings:
 -- text-lines. Checks 16 and 23, of the numbers that tags hold, pass exactly as the rules say: size-lawful,
 -- batch-lawful.
 use Prim.Native.Nat.{ℕ, _+_, _-_, _≤_, _<_}
@@ -51,12 +51,23 @@ pub record TextLines (s : List ℕ) (header : Section) : Type 0 where
 abbrev pub BatchLine : List ℕ → Section → Type 0
 BatchLine s header = HasTag s header batchTag × WhereTagged s header batchTag (λ (e : IndexRecord). e .ty ≡ 4)
 
+-- the digest's
+abbrev pub DigestLine : List ℕ → Section → Type 0
+DigestLine s signature =
+    HasTag s signature 1004 × WhereTagged s signature 1004 (λ (e : IndexRecord). e .ty ≡ 7) × HasCount s signature 1004 16
+
 -- by their numbers in the catalogue
 module _ (edition : Edition) (s : List ℕ) (signature header : Section)
     (lines : LawfulLines edition s signature header) where
   pub size-there : Keeps edition → HasTag s signature 1000
   unfolding lineAt catalogue signatureLines headerLines
   size-there keeps = lines .0 3 (omega arith) (keeps (lineAt 3) refl) .required (omega arith)
+
+  pub digest-there : Keeps edition → DigestLine s signature
+  unfolding lineAt catalogue signatureLines headerLines
+  digest-there keeps =
+      let k = lines .0 5 (omega arith) (keeps (lineAt 5) refl) in
+      (k .required (omega arith), k .type′, k .count (λ e. omega arith))
 
   pub states-there : Keeps edition → HasTag s header 1028
   unfolding lineAt catalogue signatureLines headerLines

@@ -1,11 +1,14 @@
 -- A run of checks and what it tests, as equivalences: check-iff, last-iff, both-iff, then-iff; the tests themselves:
--- leb-iff, ltb-iff, eqb-iff, cond-iff, choice-iff, unless-iff, not-iff, one-iff, given-iff.
+-- leb-iff, ltb-iff, eqb-iff, cond-iff, choice-iff, unless-iff, not-iff, one-iff, given-iff, same-iff.
 use Prim.Native.Nat.{ℕ, _≤_, _<_}
 use mathlib.Core.Path.{_≡_, refl, sym}
 use mathlib.Core.Logic.{_↔_, _≢_, _⊎_, inl, inr, ⊎-elim}
+use mathlib.Core.List.{List}
 use mathlib.Core.Bool.{Bool, true, false, cond, not, _||_, false≢true}
 use lib.Dec.{eqb, leb, ltb}
 use borrow.Author.Tests.{leb-true, le-leb, ltb-true, lt-ltb, eqb-true, eqb-false, eq-eqb}
+use Rattle.be.specs.Bytes.{sameBytes}
+use Rattle.be.proofs.SameLaws.{same-eq, same-refl}
 use Rattle.format.specs.declared.verdict.Verdict.{Verdict}
 use Rattle.format.specs.declared.verdict.Verdict.the-variants.{Pass}
 use Rattle.format.specs.Verdicts.{check, both}
@@ -74,3 +77,6 @@ given-iff n m = go (eqb n 0) refl
     go : (b : Bool) → eqb n 0 ≡ b → ((b || eqb n m) ≡ true) ↔ (n ≢ 0 → m ≡ n)
     go true q = (λ h k. absurd (k (eqb-true n 0 q)), λ h. refl)
     go false q = (λ h k. sym (eqb-true n m h), λ h. eq-eqb n m (sym (h (eqb-false n 0 q))))
+
+pub same-iff : (a b : List ℕ) → (sameBytes a b ≡ true) ↔ (a ≡ b)
+same-iff a b = (same-eq a b, λ e. rw e (same-refl b))

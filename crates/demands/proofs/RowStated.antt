@@ -12,18 +12,19 @@ use Rattle.book.specs.Doses.{doses}
 use Rattle.book.proofs.PassLaws.{pass-records}
 use Rattle.book.proofs.RowTheorems.{one-way, known-hold, lawful-hold, row-doses, pass-is-row}
 use Rattle.buffer.specs.Buffer.{numbersOf}
-use Rattle.reading.specs.Reading.{bookOf, bookPart, openedCheck, checksAt, readingCheck}
+use Rattle.reading.specs.Editions.{editionOf}
+use Rattle.reading.specs.Reading.{bookOf, bookPart, readingCheck}
 use Rattle.reading.specs.Buffers.{roomIn, cells}
-use Rattle.reading.proofs.AnswerLaws.{done}
+use Rattle.reading.proofs.AnswerLaws.{done, pass-book}
 use Rattle.demands.specs.Rows.{DosesStated}
 use Rattle.demands.proofs.Demand1.{accepted-writes}
 
 -- where the reading passes, so do the book's records
-pass-book : (edition : ℕ) (s : List ℕ) (room : ℕ) → readingCheck edition s room ≡ Pass
+pass-row : (edition : ℕ) (s : List ℕ) (room : ℕ) → readingCheck edition s room ≡ Pass
     → recordsCheck (isKnown edition) (bookOf s) (places (bookOf s)) ≡ Pass
-unfolding readingCheck checksAt openedCheck bookPart
-pass-book edition s room h =
-    let k = both-inverted _ _ (both-inverted _ _ (both-inverted _ _ (both-inverted _ _ h .1) .1) .1) in
+unfolding readingCheck bookPart
+pass-row edition s room h =
+    let k = both-inverted _ _ (pass-book (editionOf edition) s room (both-inverted _ _ h .1)) in
     pass-records (isKnown edition) (bookOf s) (k .0)
 
 pub doses-stated : DosesStated
@@ -31,7 +32,7 @@ doses-stated form edition s before count h =
     let b = bookOf s in
     let room = roomIn form before in
     let k = done (readingCheck edition s room) (length (doses b)) h in
-    let f = pass-is-row (isKnown edition) (known-hold edition) b .0 (pass-book edition s room (k .0)) in
+    let f = pass-is-row (isKnown edition) (known-hold edition) b .0 (pass-row edition s room (k .0)) in
     let hold = lawful-hold (isKnown edition) (known-hold edition) (f .0) (f .1 .bodies) (f .2) in
     let d = row-doses b (f .0) (f .1) hold in
     let w = accepted-writes form edition s before count h in (

@@ -11,7 +11,6 @@ use native.Mathlib.Nat.{eq-or-lt-of-le}
 use borrow.Author.Tests.{eq-eqb}
 use Rattle.be.specs.Numbers.{be32At}
 use Rattle.be.specs.Bytes.{sameBytes}
-use Rattle.be.proofs.SameLaws.{same-eq, same-refl}
 use Rattle.strings.specs.declared.Ending.the-variants.{Ends}
 use Rattle.strings.specs.Strings.{stringsFrom}
 use Rattle.format.specs.declared.section.Section.{Section}
@@ -29,15 +28,12 @@ use Rattle.structure.specs.Sound.{SoundEntry}
 use Rattle.tags.specs.Tags.{countIn}
 use Rattle.texts.specs.Texts.{linux, binSh, foundText, textIs, allBelow, foundBelow, indexesBelow}
 use Rattle.texts.specs.Texts.{slashesEnd, foundSlashes, directoriesEnd, textsCheck}
-use Rattle.demands.specs.Lawful.{HasTag, WhereTagged, TextIs, Directories, LawfulTexts, LawfulStructure}
-use Rattle.demands.proofs.PassIff.{check-iff, eqb-iff, ltb-iff, cond-iff, not-iff}
+use Rattle.demands.specs.Lawful.{HasTag, WhereTagged, DataIs, Directories, LawfulTexts, LawfulStructure}
+use Rattle.demands.proofs.PassIff.{check-iff, eqb-iff, ltb-iff, cond-iff, not-iff, same-iff}
 use Rattle.demands.proofs.FoundLawful.{Apart, record-iff, found-iff, below-count-iff}
 use Rattle.demands.proofs.StructureLawful.{entry-sound}
 use Rattle.demands.proofs.NumberLawful.{OneString, TextLines}
 use Rattle.demands.proofs.RowLawful.{SlashEnds, Whole, text-here, rows-lawful}
-
-same-iff : (a b : List ℕ) → (sameBytes a b ≡ true) ↔ (a ≡ b)
-same-iff a b = (same-eq a b, λ e. rw e (same-refl b))
 
 below-lawful : (s : List ℕ) (limit n at : ℕ)
     → (allBelow s limit n at ≡ true) ↔ ((k : ℕ) → k < n → be32At s (at + 4 * k) < limit)
@@ -159,18 +155,20 @@ module _ (s : List ℕ) (start : ℕ) (lawful : LawfulStructure Header s start) 
         (rows-lawful s (recordAt s header i .count) extent at (rows 8 eight-strings p) (sound .inside))
 
   text-lawful : (text : List ℕ) → nonzero text ≡ true → (tag : ℕ) → OneString s header tag
-      → (textIs s header (taggedIn s header) (text ++ 0 ∷ []) tag ≡ true) ↔ TextIs s header tag (text ++ 0 ∷ [])
+      → (textIs s header (taggedIn s header) (text ++ 0 ∷ []) tag ≡ true) ↔ DataIs s header tag (text ++ 0 ∷ [])
   text-lawful text w tag one =
       record-iff s header apart tag
       (λ (t : Tagged). foundText s (text ++ 0 ∷ []) (entryFor s header t) ≡ true)
       (λ (e : IndexRecord). take (length (text ++ 0 ∷ [])) (drop (inFile header (e .offset)) s) ≡ text ++ 0 ∷ [])
       (λ i l t. text-at i l text (whole text w) (one .0 i l t) (one .1 i l t)) (inl refl)
 
-  linux-lawful : (tag : ℕ) → OneString s header tag → (textIs s header (taggedIn s header) linux tag ≡ true) ↔ TextIs s header tag linux
+  linux-lawful : (tag : ℕ) → OneString s header tag
+      → (textIs s header (taggedIn s header) linux tag ≡ true) ↔ DataIs s header tag linux
   unfolding nonzero
   linux-lawful = text-lawful (0x6C ∷ 0x69 ∷ 0x6E ∷ 0x75 ∷ 0x78 ∷ []) refl
 
-  shell-lawful : (tag : ℕ) → OneString s header tag → (textIs s header (taggedIn s header) binSh tag ≡ true) ↔ TextIs s header tag binSh
+  shell-lawful : (tag : ℕ) → OneString s header tag
+      → (textIs s header (taggedIn s header) binSh tag ≡ true) ↔ DataIs s header tag binSh
   unfolding nonzero
   shell-lawful = text-lawful (0x2F ∷ 0x62 ∷ 0x69 ∷ 0x6E ∷ 0x2F ∷ 0x73 ∷ 0x68 ∷ []) refl
 

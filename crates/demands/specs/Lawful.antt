@@ -1,4 +1,4 @@
--- What document 01, as request 2 amends it, says a right package is, section by section: no order and no numbers of checks.
+-- What document 01, as requests 2 and 3 amend it, says a right package is, section by section: no order and no numbers of checks.
 use Prim.Native.Nat.{ℕ, zero, suc, _+_, _-_, _*_, _%_, _≤_, _<_}
 use mathlib.Core.Path.{_≡_}
 use mathlib.Core.Logic.{_⊎_, _≢_}
@@ -24,6 +24,7 @@ use Rattle.catalogue.specs.declared.Line.{Line}
 use Rattle.catalogue.specs.Catalogue.{lineAt, signatureCount, lineCount}
 use Rattle.files.specs.Files.{fileTags}
 use Rattle.texts.specs.Texts.{linux, binSh}
+use Rattle.md5.specs.Md5.{digest}
 use Rattle.book.specs.Book.{bookLimit}
 use Rattle.book.specs.Rows.{BookRecord, IsRow, statedSum, LawfulRow}
 use Rattle.reading.specs.Editions.{Edition, batchTag, hasBatch}
@@ -150,10 +151,10 @@ pub record LawfulGroups (s : List ℕ) (signature header : Section) : Type 0 whe
   pub changes : LawfulLed s header 1081 1080 1081 1082
   pub locales : LawfulLocales s header
 
--- the bytes from the data of every record that has a tag on are a text
-abbrev pub TextIs : List ℕ → Section → ℕ → List ℕ → Type 0
-TextIs s section tag text =
-    WhereTagged s section tag (λ (e : IndexRecord). take (length text) (drop (inFile section (e .offset)) s) ≡ text)
+-- where the data of a record with a tag starts, some bytes stand: of every such record
+abbrev pub DataIs : List ℕ → Section → ℕ → List ℕ → Type 0
+DataIs s section tag bytes =
+    WhereTagged s section tag (λ (e : IndexRecord). take (length bytes) (drop (inFile section (e .offset)) s) ≡ bytes)
 
 -- a text without zero bytes that ends with "/" (0x2F)
 pub record Directory (text : List ℕ) : Type 0 where
@@ -170,11 +171,11 @@ pub record Directories (s : List ℕ) (at count : ℕ) : Type 0 where
 -- "Texts"
 pub record LawfulTexts (s : List ℕ) (header : Section) : Type 0 where
   -- 1021 is "linux"; 1085 to 1088, where present, are "/bin/sh"; each with its zero byte
-  pub system : TextIs s header 1021 linux
-  pub preInstall : TextIs s header 1085 binSh
-  pub postInstall : TextIs s header 1086 binSh
-  pub preRemove : TextIs s header 1087 binSh
-  pub postRemove : TextIs s header 1088 binSh
+  pub system : DataIs s header 1021 linux
+  pub preInstall : DataIs s header 1085 binSh
+  pub postInstall : DataIs s header 1086 binSh
+  pub preRemove : DataIs s header 1087 binSh
+  pub postRemove : DataIs s header 1088 binSh
   -- each 1116 value is below the count of 1118
   pub indexes : WhereTagged s header 1116
       (λ (e : IndexRecord). (k : ℕ) → k < e .count
@@ -216,6 +217,8 @@ pub record LawfulPackage (edition : Edition) (s : List ℕ) : Type 0 where
   pub payload : NumberIs s (sectionAt s leadSize) 1000 (length s - H)
   pub groups : LawfulGroups s (sectionAt s leadSize) (sectionAt s H)
   pub texts : LawfulTexts s (sectionAt s H)
+  -- the signature's 1004 is the MD5 of the bytes from H to the package's end
+  pub digested : DataIs s (sectionAt s leadSize) 1004 (digest (drop H s))
   pub book : LawfulBook (edition .known) (bookIn s (sectionAt s H))
   -- where the edition has the batch weight's line, the sum of what the book's records state equals its value
   pub batch : hasBatch edition ≡ true → NumberIs s (sectionAt s H) batchTag (statedSum (book .row))

@@ -1,4 +1,4 @@
--- Request 1: the package that is written. Data in list order, packed, with zero bytes for alignment and before H.
+-- Requests 1 and 3: the package that is written. Data in list order, packed, with zero bytes for alignment and before H.
 use Prim.Native.Nat.{ℕ, _+_, _-_}
 use mathlib.Core.List.{List, [], _∷_, _++_}
 use lib.ListN.{length, take}
@@ -8,9 +8,10 @@ use Rattle.format.specs.declared.records.IndexRecord.{IndexRecord}
 use Rattle.entries.specs.declared.types.ElementSize.{ElementSize}
 use Rattle.entries.specs.declared.types.ElementSize.the-variants.{Bytes, ToZero, Unlawful}
 use Rattle.entries.specs.Types.{elementSize}
+use Rattle.md5.specs.Md5.{digest}
 use Rattle.put.specs.Puts.{bytesOf, fourBytes, zeros}
 use Rattle.lists.specs.Lists.{ListEntry}
-use Rattle.reasons.specs.Reasons.{recordOf, sizeEntry}
+use Rattle.reasons.specs.Reasons.{recordOf, withOwn}
 
 -- where data of a type goes, at or after a place of the store: a multiple of a fixed size; anywhere for strings
 abbrev pub alignFor : ElementSize → ℕ → ℕ
@@ -47,14 +48,18 @@ storeFrom filled (entry ∷ rest) =
 abbrev pub headerBytes : ℕ → ℕ → List ℕ
 headerBytes nindex hsize = fourBytes 0x8EADE801 0 nindex hsize
 
+-- the index records of the writer's own entries, whose data comes first in the store: four bytes, then sixteen
+abbrev pub ownRecords : List ℕ
+ownRecords = fourBytes 1000 4 0 1 ++ fourBytes 1004 7 4 16
+
 -- a structure: header record, index, store
 unfoldable pub structureBytes : List ListEntry → List ℕ
 structureBytes entries =
     headerBytes (length entries) (length (storeFrom 0 entries)) ++ (indexFrom 0 entries ++ storeFrom 0 entries)
 
--- 1000 first in the signature, with the right number: the length less H, which is the header structure's
-unfoldable pub withSize : List ListEntry → List ListEntry → List ListEntry
-withSize signature header = sizeEntry (length (structureBytes header)) ∷ signature
+-- 1000 and 1004 first in the signature: the length less H, which is the header structure's, and its MD5
+unfoldable pub signatureOf : List ListEntry → List ListEntry → List ListEntry
+signatureOf signature header = withOwn (length (structureBytes header)) (digest (structureBytes header)) signature
 
 -- bytes 10-75 of the lead: the name, and zero bytes behind it
 abbrev pub nameField : ℕ
@@ -77,6 +82,6 @@ gapBytes end = zeros (alignUp 8 end - end)
 unfoldable pub written : List ℕ → List ListEntry → List ListEntry → List ℕ
 written name signature header =
     leadBytes name
-    ++ (structureBytes (withSize signature header)
-    ++ (gapBytes (leadSize + length (structureBytes (withSize signature header)))
+    ++ (structureBytes (signatureOf signature header)
+    ++ (gapBytes (leadSize + length (structureBytes (signatureOf signature header)))
     ++ structureBytes header))

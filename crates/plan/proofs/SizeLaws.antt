@@ -2,16 +2,18 @@
 -- for it (stores-fit); 33 and 34 for each way through room_check (over-first to fits).
 use Prim.Native.Nat.{ℕ, zero, suc, _+_, _-_, _*_, _/_, _≤_, _<_}
 use mathlib.Core.Path.{_≡_, _∙_}
-use mathlib.Core.List.{List, _∷_, _++_}
+use mathlib.Core.List.{List, _++_}
 use lib.ListN.{length, drop, length-append, length-replicate, length-take, length-drop}
 use native.Mathlib.Omega.{arith}
 use borrow.Author.Tests.{le-leb, lt-leb}
 use Rattle.format.specs.Verdicts.{check}
+use Rattle.md5.specs.Md5.{digest}
+use Rattle.md5.proofs.DigestLaws.{digest-length}
 use Rattle.put.specs.Puts.{zeros}
 use Rattle.lists.specs.Lists.{sizeAt, entryAt, entriesFrom, entriesOf, sizesFrom}
 use Rattle.lists.proofs.ListLaws.{entries-total}
-use Rattle.reasons.specs.Reasons.{sizeEntry}
-use Rattle.layout.specs.Layout.{dataStart, dataStop, storeFrom, structureBytes, withSize, leadBytes, gapBytes, written}
+use Rattle.reasons.specs.Reasons.{withOwn}
+use Rattle.layout.specs.Layout.{dataStart, dataStop, storeFrom, structureBytes, signatureOf, leadBytes, gapBytes, written}
 use Rattle.layout.proofs.LeadLaws.{lead-length}
 use Rattle.layout.proofs.StructureLaws.{structure-length, signature-length}
 use Rattle.plan.specs.declared.Sizes.{Sizes}
@@ -35,12 +37,12 @@ sizes-fill list row (suc n) i at filled h =
     omega arith
 
 module _ (sig sigs head heads : List ℕ) where
-  pub signature-size : (number : ℕ)
-      → length (structureBytes (sizeEntry number ∷ entriesOf sig sigs))
-      ≡ 16 + 16 * (length sig / 16 + 1) + signatureStore sig sigs
-  signature-size number =
+  pub signature-size : (number : ℕ) (bytes : List ℕ) → length bytes ≡ 16
+      → length (structureBytes (withOwn number bytes (entriesOf sig sigs)))
+      ≡ 16 + 16 * (length sig / 16 + 2) + signatureStore sig sigs
+  signature-size number bytes h =
       let a = entries-total sig sigs (length sig / 16) 0 0 in
-      signature-length number (entriesOf sig sigs) ∙ rw a
+      signature-length number bytes (entriesOf sig sigs) h ∙ rw a
 
   pub header-size : length (structureBytes (entriesOf head heads)) ≡ 16 + 16 * (length head / 16) + headerStore head heads
   header-size =
@@ -48,25 +50,25 @@ module _ (sig sigs head heads : List ℕ) where
       structure-length (entriesOf head heads) ∙ rw a
 
   pub written-length : (name : List ℕ) → length (writtenOf name sig sigs head heads) ≡ sizesOf sig sigs head heads .length
-  unfolding written withSize
+  unfolding written signatureOf
   written-length name =
-      let number = length (structureBytes (entriesOf head heads)) in
-      let signature = structureBytes (sizeEntry number ∷ entriesOf sig sigs) in
-      let a = signature-size number in
+      let header = structureBytes (entriesOf head heads) in
+      let signature = structureBytes (withOwn (length header) (digest header) (entriesOf sig sigs)) in
+      let a = signature-size (length header) (digest header) (digest-length header) in
       let b = header-size in
       let c = lead-length name in
       let end = 96 + length signature in
       let d = length-replicate {A = ℕ} ((end + 7) / 8 * 8 - end) 0 in
-      let e = length-append (leadBytes name) (signature ++ (gapBytes end ++ structureBytes (entriesOf head heads))) in
-      let f = length-append signature (gapBytes end ++ structureBytes (entriesOf head heads)) in
-      let g = length-append (gapBytes end) (structureBytes (entriesOf head heads)) in
+      let e = length-append (leadBytes name) (signature ++ (gapBytes end ++ header)) in
+      let f = length-append signature (gapBytes end ++ header) in
+      let g = length-append (gapBytes end) header in
       omega arith
 
   -- a package that is written is longer than the data lent for it
   pub stores-fit : sizesFrom sig (length sig / 16) 0 ≡ length sigs → sizesFrom head (length head / 16) 0 ≡ length heads
       → (length sigs ≤ sizesOf sig sigs head heads .length) × (length heads ≤ sizesOf sig sigs head heads .length)
   stores-fit g h =
-      let a = sizes-fill sig sigs (length sig / 16) 0 0 4 (omega arith) in
+      let a = sizes-fill sig sigs (length sig / 16) 0 0 20 (omega arith) in
       let b = sizes-fill head heads (length head / 16) 0 0 0 (omega arith) in
       (omega arith, omega arith)
 
@@ -78,13 +80,13 @@ module _ (sig sigs head heads : List ℕ) where
 
     pub over-first : sizesFrom sig (length sig / 16) 0 ≡ length sigs → 65536 < length sigs
         → plan.Refused 33 0 ≡ planned sig sigs head heads room
-    over-first h l = let k = sizes-fill sig sigs (length sig / 16) 0 0 4 (omega arith) in over (omega arith)
+    over-first h l = let k = sizes-fill sig sigs (length sig / 16) 0 0 20 (omega arith) in over (omega arith)
 
     pub over-second : sizesFrom head (length head / 16) 0 ≡ length heads → 65536 < length heads
         → plan.Refused 33 0 ≡ planned sig sigs head heads room
     over-second h l = let k = sizes-fill head heads (length head / 16) 0 0 0 (omega arith) in over (omega arith)
 
-    module _ {first second : ℕ} {sizes : Sizes} (f : first ≡ 4 + length (storeFrom 4 (entriesOf sig sigs)))
+    module _ {first second : ℕ} {sizes : Sizes} (f : first ≡ 20 + length (storeFrom 20 (entriesOf sig sigs)))
         (s : second ≡ 0 + length (storeFrom 0 (entriesOf head heads))) (z : sizes ≡ sizesWith sig head first second) where
       meets : sizes ≡ sizesOf sig sigs head heads
       meets = let k : second ≡ headerStore head heads = omega arith in z ∙ rw (f, k)

@@ -24,13 +24,13 @@ Listed list row =
 abbrev pub structureSize : ℕ → ℕ → ℕ
 structureSize nindex hsize = headerRecordSize + indexRecordSize * nindex + hsize
 
--- where the signature ends, with n entries behind 1000 and a store of so many bytes
+-- where the signature ends, with n entries behind 1000 and 1004 and a store of so many bytes
 abbrev pub signatureEnd : ℕ → ℕ → ℕ
-signatureEnd n hsize = leadSize + structureSize (n + 1) hsize
+signatureEnd n hsize = leadSize + structureSize (n + 2) hsize
 
--- the stores of a signature, behind the four bytes of 1000, and of a header
+-- the stores of a signature, behind the 20 bytes of 1000 and 1004, and of a header
 abbrev pub signatureStore : List ℕ → List ℕ → ℕ
-signatureStore list row = 4 + length (storeFrom 4 (entriesOf list row))
+signatureStore list row = 20 + length (storeFrom 20 (entriesOf list row))
 
 abbrev pub headerStore : List ℕ → List ℕ → ℕ
 headerStore list row = length (storeFrom 0 (entriesOf list row))

@@ -12,6 +12,7 @@ use format::Lead;
 use format::Verdict;
 use lists::ListRecord;
 use places::FileOffset;
+use reasons::Own;
 
 // The sizes of a package: the signature's store, where the header starts, the header's store, the whole length.
 pub struct Sizes {
@@ -29,7 +30,7 @@ pub enum Plan {
 
 // Up to where the store of a list is filled, from a place on.
 fn store_end(list: &[u8], row: &[u8], start: usize) -> usize
-    requires { ⌜ Listed (now list) (now row) × (start ≤ 4) ⌝ }
+    requires { ⌜ Listed (now list) (now row) × (start ≤ 20) ⌝ }
     ensures { λ r. ⌜ (r ≡ start + length (storeFrom start (entriesOf (now (list .entry)) (now (row .entry)))))
         × (r ≤ 2 * packageLimit) ⌝ }
 {
@@ -53,7 +54,7 @@ fn sizes_with(signature: &[u8], header: &[u8], first: usize, second: usize) -> S
         × (first ≤ 2 * packageLimit) × (second ≤ 2 * packageLimit) ⌝ }
     ensures { λ r. ⌜ r ≡ sizesWith (now (signature .entry)) (now (header .entry)) first second ⌝ }
 {
-    let n = signature.len() / ListRecord::SIZE + 1;
+    let n = signature.len() / ListRecord::SIZE + Own::ENTRIES;
     let end = Lead::SIZE + (HeaderRecord::SIZE + IndexRecord::SIZE * n + first);
     let start = (end + 7) / 8 * 8;
     let m = header.len() / ListRecord::SIZE;
@@ -86,7 +87,7 @@ fn room_check(
     if FileOffset::LIMIT < header_data.len() {
         return Plan::Refused(33, 0);
     }
-    let first = store_end(signature, signature_data, 4);
+    let first = store_end(signature, signature_data, Own::STORE);
     let second = store_end(header, header_data, 0);
     let sizes = sizes_with(signature, header, first, second);
     if FileOffset::LIMIT < sizes.length as usize {

@@ -1,12 +1,12 @@
--- Stores in a buffer (out-of-room, sets-append, sets-past, behind, at-front); four of them (four-stores, three-stores), and
--- what there is no room for (cut-none, cut-one, cut-two, last-cut, cut-behind); a copy and a fill, turn by turn (copy-turn,
--- copied, fill-turn, filled); eight bytes (eight-past, eight-cut, eight-put); numbers in a row (one-number to four-numbers), bytes and zero bytes (run-put, run-past, run-cut); the
--- length of what is put (length-bytes, length-four).
+-- Stores in a buffer (out-of-room, sets-append, sets-past, behind, before, put-there, at-front); four of them (four-stores,
+-- three-stores), and what there is no room for (cut-none, cut-one, cut-two, last-cut, cut-behind); a copy and a fill, turn by
+-- turn (copy-turn, copied, fill-turn, filled); eight bytes (eight-past, eight-cut, eight-put); numbers in a row (one-number to
+-- four-numbers), bytes and zero bytes (run-put, run-past, run-cut); the length of what is put (length-bytes, length-four).
 use Prim.Native.Nat.{ℕ, suc, _+_, _-_, _≤_, _<_}
-use mathlib.Core.Path.{_≡_, refl, sym, _∙_}
-use mathlib.Core.List.{List, [], _∷_, _++_}
-use lib.ListN.{length, getD, set, drop, length-set, length-drop, length-replicate}
-use lib.Seq.{sets, sets-eq, set-out, drop-cons, length-sets}
+use mathlib.Core.Path.{_≡_, refl, sym, ap, _∙_}
+use mathlib.Core.List.{List, [], _∷_, _++_, append-assoc}
+use lib.ListN.{length, getD, set, take, drop, length-set, length-drop, length-replicate}
+use lib.Seq.{sets, sets-eq, set-out, set-comm, take-at, drop-at, drop-cons, length-sets, length-take-le}
 use native.Mathlib.Nat.{add-zero}
 use native.Mathlib.Numerals.{add-one}
 use native.Mathlib.Omega.{arith}
@@ -30,6 +30,33 @@ sets-past out i (x ∷ xs) h = let e = set-out out i x h in rw e (sets-past out 
 pub behind : (out : List ℕ) {o₁ o₂ : List ℕ} (at : ℕ) {next : ℕ} (xs ys : List ℕ) → o₁ ≡ sets out at xs → o₂ ≡ sets o₁ next ys
     → next ≡ at + length xs → o₂ ≡ sets out at (xs ++ ys)
 behind out at xs ys p q e = q ∙ rw (p, e) (sym (sets-append out at xs ys))
+
+-- what is put before what was put
+set-before : (out : List ℕ) (at x next : ℕ) (ys : List ℕ) → at < next → set (sets out next ys) at x ≡ sets (set out at x) next ys
+set-before out at x next [] h = refl
+set-before out at x next (y ∷ ys) h =
+    set-before (set out next y) at x (suc next) ys (omega arith)
+    ∙ ap (λ (l : List ℕ). sets l (suc next) ys) (set-comm out next at y x (λ e. let k : next ≡ at = e in omega arith))
+
+sets-before : (out : List ℕ) (at next : ℕ) (xs ys : List ℕ) → at + length xs ≤ next
+    → sets (sets out next ys) at xs ≡ sets (sets out at xs) next ys
+sets-before out at next [] ys h = refl
+sets-before out at next (x ∷ xs) ys h =
+    ap (λ (l : List ℕ). sets l (suc at) xs) (set-before out at x next ys (omega arith))
+    ∙ sets-before (set out at x) (suc at) next xs ys (omega arith)
+
+pub before : (out : List ℕ) {o₁ o₂ : List ℕ} (at : ℕ) {next : ℕ} (xs ys : List ℕ) → o₁ ≡ sets out next ys → o₂ ≡ sets o₁ at xs
+    → next ≡ at + length xs → o₂ ≡ sets out at (xs ++ ys)
+before out at {next} xs ys p q e =
+    q ∙ rw p (sets-before out at next xs ys (omega arith)) ∙ behind out at xs ys refl refl e
+
+-- what was put stands there
+pub put-there : (out vs : List ℕ) (at : ℕ) → at + length vs ≤ length out → take (length vs) (drop at (sets out at vs)) ≡ vs
+put-there out vs at h =
+    let rest = drop (at + length vs) out in
+    ap (λ (l : List ℕ). take (length vs) (drop at l)) (sets-eq vs out at h ∙ append-assoc (take at out) vs rest)
+    ∙ ap (take (length vs)) (drop-at (take at out) (vs ++ rest) at (length-take-le at out (omega arith)))
+    ∙ take-at vs rest (length vs) refl
 
 pub at-front : (out vs : List ℕ) → length vs ≤ length out → sets out 0 vs ≡ vs ++ drop (length vs) out
 at-front out vs h = let e : 0 + length vs ≡ length vs = omega arith in sets-eq vs out 0 (omega arith) ∙ rw e

@@ -10,8 +10,10 @@ use Rattle.format.specs.declared.verdict.Verdict.the-variants.{Pass, Fail}
 use Rattle.format.specs.declared.verdict.Answer.{Answer}
 use Rattle.format.specs.declared.verdict.Answer.the-variants.{Done, Refused}
 use Rattle.format.proofs.VerdictLaws.{inverted, both-inverted}
+use Rattle.package.specs.Package.{headerAt}
 use Rattle.book.specs.Doses.{doses}
 use Rattle.buffer.specs.Buffer.{numbersPerDose}
+use Rattle.reading.specs.Editions.{Edition, editionOf}
 use Rattle.reading.specs.Reading.{bookOf, needed, roomCheck, bookPart, openedCheck, checksAt, readingCheck, answerAs, readAnswer}
 
 pub done : (v : Verdict) (count : ℕ) {n : ℕ} → answerAs v count ≡ Done n → (v ≡ Pass) × (n ≡ count)
@@ -22,11 +24,17 @@ pub refused : (v : Verdict) (count : ℕ) {n p : ℕ} → answerAs v count ≡ R
 refused Pass count h = let z : _≡_ {A = ℕ} 0 1 = cc in absurd (omega arith)
 refused (Fail number place) count h = cc
 
+-- where all checks pass, so do those of the book
+pub pass-book : (edition : Edition) (s : List ℕ) (room : ℕ) → checksAt edition s room ≡ Pass
+    → bookPart edition s (headerAt s) room (bookOf s) ≡ Pass
+unfolding checksAt openedCheck
+pass-book edition s room h = both-inverted _ _ (both-inverted _ _ (both-inverted _ _ h .1) .1) .1
+
 -- where the reading passes, the buffer has room
 pub pass-room : (edition : ℕ) (s : List ℕ) (room : ℕ) → readingCheck edition s room ≡ Pass → needed (bookOf s) ≤ room
-unfolding readingCheck checksAt openedCheck bookPart roomCheck
+unfolding readingCheck bookPart roomCheck
 pass-room edition s room h =
-    let k = both-inverted _ _ (both-inverted _ _ (both-inverted _ _ (both-inverted _ _ h .1) .1) .1) in
+    let k = both-inverted _ _ (pass-book (editionOf edition) s room (both-inverted _ _ h .1)) in
     leb-true _ _ (inverted _ _ _ _ (both-inverted _ _ (k .1) .1) .0)
 
 pub answer-room : (edition : ℕ) (s : List ℕ) (room : ℕ) {answer : Answer} {count : ℕ} → answer ≡ readAnswer edition s room

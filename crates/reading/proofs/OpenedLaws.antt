@@ -1,4 +1,4 @@
--- Checks 14 to 24, for each way through the functions that run them.
+-- Checks 14 to 24, and 27, for each way through the functions that run them.
 use Prim.Native.Nat.{ℕ, _*_, _≤_, _<_}
 use mathlib.Core.Path.{_≡_, sym, ap, _∙_}
 use mathlib.Core.List.{List, []}
@@ -22,6 +22,7 @@ use Rattle.lookups.specs.Within.{bytesIn}
 use Rattle.package.specs.declared.Opened.{Opened}
 use Rattle.package.specs.declared.Opened.the-variants.{Sound, Unsound}
 use Rattle.rules.specs.Rules.{rulesCheck}
+use Rattle.verify.specs.Digests.{digestCheck}
 use Rattle.book.specs.declared.Weighed.{Weighed}
 use Rattle.book.specs.declared.Weighed.the-variants as weighed′
 use Rattle.book.specs.Doses.{doses, weighed}
@@ -102,7 +103,7 @@ module _ (edition : ℕ) (s : List ℕ) (header : Section) (room : ℕ) (b : Lis
           rw (book-left ∙ both-pass {rest = check (leb (numbersPerDose * count) room) 24 (numbersPerDose * count) Pass} (sym q ∙ k), le-leb (numbersPerDose * count) room l)
           (ap Doses (weighed-doses edition b p h .1))
 
--- checks 14 to 18 first
+-- checks 14 to 18 first, then 27
 module _ (edition : ℕ) (s : List ℕ) (signature header : Section) (room : ℕ) (b : List ℕ) {v : Verdict}
     (p : v ≡ rulesCheck (inEdition edition) s (length s) signature header) where
   pub rules-refused : {number place : ℕ} → v ≡ Fail number place
@@ -110,8 +111,18 @@ module _ (edition : ℕ) (s : List ℕ) (signature header : Section) (room : ℕ
   unfolding openedCheck
   rules-refused h = rw (both-fail _ (sym p ∙ h))
 
-  pub book-left-over : {r : Weighing} → v ≡ Pass
-      → r ≡ weighingAs (bookPart (editionOf edition) s header room b) (length (doses b))
-      → r ≡ weighingAs (openedCheck (editionOf edition) s signature header room b) (length (doses b))
-  unfolding openedCheck
-  book-left-over h k = rw (both-pass {rest = bookPart (editionOf edition) s header room b} (sym p ∙ h)) k
+  module _ (h : v ≡ Pass) {w : Verdict} (q : w ≡ digestCheck s signature header) where
+    -- what is left once the rules passed
+    rules-left : openedCheck (editionOf edition) s signature header room b
+        ≡ both (digestCheck s signature header) (bookPart (editionOf edition) s header room b)
+    unfolding openedCheck
+    rules-left = both-pass (sym p ∙ h)
+
+    pub digest-refused : {number place : ℕ} → w ≡ Fail number place
+        → Refused number place ≡ weighingAs (openedCheck (editionOf edition) s signature header room b) (length (doses b))
+    digest-refused k = rw (rules-left ∙ both-fail _ (sym q ∙ k))
+
+    pub book-left-over : {r : Weighing} → w ≡ Pass
+        → r ≡ weighingAs (bookPart (editionOf edition) s header room b) (length (doses b))
+        → r ≡ weighingAs (openedCheck (editionOf edition) s signature header room b) (length (doses b))
+    book-left-over k l = rw (rules-left ∙ both-pass {rest = bookPart (editionOf edition) s header room b} (sym q ∙ k)) l

@@ -1,4 +1,4 @@
--- Document 01, "Numbers the station shows": the reading, checks 1 to 24 in order.
+-- Document 01, "Numbers the station shows": the reading, checks 1 to 24 in order, and request 3: 27 between 18 and 19.
 use Prim.Native.Nat.{ℕ, _*_}
 use mathlib.Core.List.{List}
 use mathlib.Core.Bool.{cond}
@@ -15,6 +15,7 @@ use Rattle.package.specs.Package.{soundCheck, signatureAt, headerAt}
 use Rattle.lookups.specs.Within.{bytesIn}
 use Rattle.catalogue.specs.Words.{int32, bin}
 use Rattle.rules.specs.Rules.{rulesCheck}
+use Rattle.verify.specs.Digests.{digestCheck}
 use Rattle.book.specs.Book.{bookTag, bookCheck}
 use Rattle.book.specs.Doses.{doses, sumOf}
 use Rattle.buffer.specs.Buffer.{numbersPerDose}
@@ -55,16 +56,17 @@ unfoldable pub bookPart : Edition → List ℕ → Section → ℕ → List ℕ 
 bookPart edition s header room book =
     both (bookCheck (edition .known) book) (both (sumCheck edition s header (sumOf (doses book))) (roomCheck room book))
 
--- 14 to 24 for a package's two structures and a book
+-- 14 to 18, 27 and 19 to 24 for a package's two structures and a book
 unfoldable pub openedCheck : Edition → List ℕ → Section → Section → ℕ → List ℕ → Verdict
 openedCheck edition s signature header room book =
-    both (rulesCheck (edition .hasLine) s (length s) signature header) (bookPart edition s header room book)
+    both (rulesCheck (edition .hasLine) s (length s) signature header)
+    (both (digestCheck s signature header) (bookPart edition s header room book))
 
--- 2 to 24 at an edition
+-- 2 to 24, and 27, at an edition
 unfoldable pub checksAt : Edition → List ℕ → ℕ → Verdict
 checksAt edition s room = both (soundCheck s) (openedCheck edition s (signatureAt s) (headerAt s) room (bookOf s))
 
--- 1 to 24, with room for so many numbers
+-- 1 to 24, and 27, with room for so many numbers
 unfoldable pub readingCheck : ℕ → List ℕ → ℕ → Verdict
 readingCheck edition s room = both (editionCheck edition) (checksAt (editionOf edition) s room)
 

@@ -26,6 +26,6 @@ abbrev pub weighingAs : Verdict → ℕ → Weighing
 weighingAs Pass count = Doses count
 weighingAs (Fail number place) count = Refused number place
 
--- 1 to 24
+-- 1 to 24, and 27
 unfoldable pub decided : ℕ → List ℕ → ℕ → Weighing
 decided edition s room = weighingAs (readingCheck edition s room) (length (doses (bookOf s)))

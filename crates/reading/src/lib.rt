@@ -1,4 +1,4 @@
-// The reading at an edition: checks 1, 23 and 24, and 1 to 24 in order.
+// The reading at an edition: checks 1, 23 and 24, and 1 to 18, 27 and 19 to 24 in order.
 ghost use mathlib.Core.Path.{_≡_};
 ghost use Prim.Native.Nat.{ℕ};
 ghost use lib.ListN.{length};
@@ -37,7 +37,7 @@ fn open_at(edition: u32, pkg: &[u8]) -> Opened
     package::open(pkg)
 }
 
-// Checks 14 to 24, with room for so many numbers, for a package and its book.
+// Checks 14 to 24, and 27, with room for so many numbers, for a package and its book.
 fn decide(edition: u32, pkg: &[u8], found: Opened, bytes: &[u8], room: usize) -> Weighing
     requires { ⌜ found ≡ openedAt edition (now pkg) ⌝ }
     requires { ⌜ now bytes ≡ openedBook (now pkg) found ⌝ }
@@ -52,7 +52,8 @@ fn decide(edition: u32, pkg: &[u8], found: Opened, bytes: &[u8], room: usize) ->
 }
 
 // Reads a package at an edition. Success is 0 with the dose count; the doses stand at the front of the buffer, oxide then
-// milligrams, and nothing behind them changes. A refusal is the first failing check of 1 to 24, and changes nothing.
+// milligrams, and nothing behind them changes. A refusal is the first failing check of 1 to 18, 27 and 19 to 24, and changes
+// nothing.
 pub fn read(edition: u32, pkg: &[u8], doses: &mut [u32]) -> Answer
     ensures { λ r. ⌜ Read edition (now (pkg .entry)) (now (doses .entry)) r (now (doses .exit)) ⌝ }
 {

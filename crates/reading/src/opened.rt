@@ -1,4 +1,4 @@
-// Checks 14 to 24 over a package's two structures.
+// Checks 14 to 24, and 27, over a package's two structures.
 ghost use mathlib.Core.Path.{_≡_};
 ghost use Prim.Native.Nat.{ℕ, _≤_};
 ghost use lib.ListN.{length};
@@ -91,7 +91,7 @@ fn weigh_book(edition: u32, pkg: &[u8], header: Section, room: usize, bytes: &[u
     }
 }
 
-// Checks 14 to 24 for a package's two structures and its book.
+// Checks 14 to 18, 27 and 19 to 24 for a package's two structures and its book.
 pub(crate) fn weigh(
     edition: u32,
     pkg: &[u8],
@@ -106,6 +106,10 @@ pub(crate) fn weigh(
 {
     let v = rules::check(edition, pkg, pkg.len() as u32, signature, header);
     if let Verdict::Fail(number, place) = v {
+        return Weighing::Refused(number, place);
+    }
+    let w = verify::check(pkg, signature, header);
+    if let Verdict::Fail(number, place) = w {
         return Weighing::Refused(number, place);
     }
     weigh_book(edition, pkg, header, room, bytes)

@@ -1,7 +1,7 @@
 -- The reasons of 32, for each way through the functions that test them: an entry's type and data, by its element size
--- (lawful, exact-fixed, exact-strings, exact-unlawful), its tag (own-signed, own-headed, repeated-own, repeated), each entry in
--- turn (entries-begun, entries-turn, entries-ends, entries-spent), the writer's own entry (own-passes), and a zero in a name
--- (zero-found).
+-- (lawful, exact-fixed, exact-strings, exact-unlawful), its tag (own-digest, own-size, own-headed, repeated-own, repeated),
+-- each entry in turn (entries-begun, entries-turn, entries-ends, entries-spent), the writer's own entries (own-passes), and a
+-- zero in a name (zero-found).
 use Prim.Native.Nat.{ℕ, zero, suc, _+_, _-_, _*_, _≤_, _<_}
 use mathlib.Core.Path.{_≡_, refl, sym, ap, _∙_}
 use mathlib.Core.List.{List, [], _∷_}
@@ -10,6 +10,7 @@ use lib.ListN.{length, take, drop}
 use lib.Dec.{eqb}
 use native.Mathlib.Nat.{sub-zero}
 use native.Mathlib.Numerals.{add-one}
+use borrow.Author.Tests.{eq-eqb, ne-eqb}
 use Rattle.be.specs.Numbers.{be32At}
 use Rattle.strings.specs.declared.Ending.{Ending}
 use Rattle.strings.specs.declared.Ending.the-variants.{Ends}
@@ -29,7 +30,8 @@ use Rattle.put.specs.Puts.{bytesOf}
 use Rattle.lists.specs.declared.ListRecord.{ListRecord}
 use Rattle.lists.specs.Lists.{ListEntry, listRecordAt, recordShown, sizeAt, entryOf, entryAt, entriesFrom}
 use Rattle.lists.proofs.ListLaws.{record-whole, entries-step, entries-none}
-use Rattle.reasons.specs.Reasons.{endsAt, dataExact, tagIn, entryReasons, entriesReasons, sizeTag, sizeEntry, hasZero, ownTags, tagsBefore}
+use Rattle.reasons.specs.Reasons.{endsAt, dataExact, tagIn, entryReasons, entriesReasons, hasZero}
+use Rattle.reasons.specs.Reasons.{sizeTag, digestTag, withOwn, ownTags, tagsBefore}
 
 pub ends-case : {run : Ending} {to : ℕ} (end : ℕ) → run ≡ Ends to → eqb to end ≡ endsAt run end
 ends-case end h = rw h
@@ -64,9 +66,13 @@ tags-before structure list tag (suc i) =
 
 -- the writer's own, by the structure
 module _ {structure : Structure} (tag : ℕ) where
-  pub own-signed : structure ≡ Signature → eqb sizeTag tag ≡ tagIn tag (ownTags structure)
+  pub own-digest : structure ≡ Signature → digestTag ≡ tag → eqb digestTag tag ≡ tagIn tag (ownTags structure)
   unfolding tagIn
-  own-signed h = rw h (sym (or-false (eqb sizeTag tag)))
+  own-digest h k = rw (h, eq-eqb digestTag tag k)
+
+  pub own-size : structure ≡ Signature → (digestTag ≡ tag → ⊥) → eqb sizeTag tag ≡ tagIn tag (ownTags structure)
+  unfolding tagIn
+  own-size h k = rw (h, ne-eqb digestTag tag k) (sym (or-false (eqb sizeTag tag)))
 
   pub own-headed : structure ≡ Header → false ≡ tagIn tag (ownTags structure)
   unfolding tagIn
@@ -129,11 +135,11 @@ module _ (structure : Structure) (list row : List ℕ) (n i at : ℕ) {v : Verdi
   pub entries-spent : n ≤ i → Pass ≡ v
   entries-spent l = sym (inv ∙ rw (entries-none list row n i at l) (none structure (tagsBefore structure list i)))
 
--- the writer's own entry passes, whatever its number
-pub own-passes : (size : ℕ) (rest : List ListEntry)
-    → entriesReasons Signature [] (sizeEntry size ∷ rest) ≡ entriesReasons Signature (ownTags Signature) rest
+-- the writer's own entries pass, whatever the number and the 16 bytes
+pub own-passes : (size : ℕ) (digest : List ℕ) (rest : List ListEntry) → length digest ≡ 16
+    → entriesReasons Signature [] (withOwn size digest rest) ≡ entriesReasons Signature (ownTags Signature) rest
 unfolding bytesOf entriesReasons entryReasons check both elementSize countRight dataExact tagIn
-own-passes size rest = refl
+own-passes size digest rest h = rw h
 
 pub zero-found : (name : List ℕ) {run : Ending} {r : Bool} → r ≡ isEnded run → run ≡ stringsFrom name (length name - 0) 0 1
     → r ≡ hasZero name

@@ -13,8 +13,9 @@ use Rattle.format.specs.declared.section.Structure.the-variants.{Signature}
 use Rattle.format.specs.declared.verdict.Verdict.the-variants.{Pass}
 use Rattle.format.proofs.VerdictLaws.{passed, inverted, both-pass, both-inverted}
 use Rattle.entries.specs.Entries.{typeLawful, countRight}
+use Rattle.put.specs.Puts.{zeros}
 use Rattle.lists.specs.Lists.{ListEntry, sizesFrom}
-use Rattle.reasons.specs.Reasons.{recordOf, dataExact, tagIn, entryReasons, entriesReasons, listReasons, sizeEntry}
+use Rattle.reasons.specs.Reasons.{recordOf, dataExact, tagIn, entryReasons, entriesReasons, listReasons, withOwn}
 use Rattle.reasons.specs.Reasons.{formReasons}
 use Rattle.reasons.proofs.ReasonLaws.{own-passes}
 
@@ -64,14 +65,14 @@ list-right structure entries = (
   λ r. sym (passed _ _ (le-leb _ _ (r .some)) (passed _ _ (le-leb _ _ (r .within)) (sym (r .each)))),
 )
 
--- 1000 passes whatever its number is
-pub size-right : (size : ℕ) (entries : List ListEntry) → ListRight Signature (sizeEntry 0 ∷ entries)
-    → ListRight Signature (sizeEntry size ∷ entries)
-size-right size entries r =
+-- the writer's own entries pass whatever the number and the 16 bytes are
+pub own-right : (size : ℕ) (digest : List ℕ) (entries : List ListEntry) → length digest ≡ 16
+    → ListRight Signature (withOwn 0 (zeros 16) entries) → ListRight Signature (withOwn size digest entries)
+own-right size digest entries h r =
     record {
       some = r .some;
       within = r .within;
-      each = own-passes size entries ∙ sym (own-passes 0 entries) ∙ r .each;
+      each = own-passes size digest entries h ∙ sym (own-passes 0 (zeros 16) entries refl) ∙ r .each;
     }
 
 -- a lent list

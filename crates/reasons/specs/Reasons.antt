@@ -1,4 +1,4 @@
--- Request 1: the reasons of refusal 32, which is placed at 0.
+-- Requests 1 and 3: the reasons of refusal 32, which is placed at 0.
 use Prim.Native.Nat.{ℕ, zero, suc, _*_}
 use mathlib.Core.List.{List, [], _∷_}
 use mathlib.Core.Bool.{Bool, false, not, _||_}
@@ -19,7 +19,7 @@ use Rattle.entries.specs.declared.types.ElementSize.{ElementSize}
 use Rattle.entries.specs.declared.types.ElementSize.the-variants.{Bytes, ToZero, Unlawful}
 use Rattle.entries.specs.Types.{elementSize}
 use Rattle.entries.specs.Entries.{typeLawful, countRight}
-use Rattle.put.specs.Puts.{bytesOf}
+use Rattle.put.specs.Puts.{bytesOf, zeros}
 use Rattle.lists.specs.Lists.{ListEntry, entriesOf, isWhole, sizesMeet}
 
 -- an entry's index record, with its data at an offset of the store
@@ -66,12 +66,22 @@ listReasons structure entries =
     (check (leb (length entries) nindexLimit) 32 0
     (entriesReasons structure [] entries))
 
--- the writer puts 1000 first in the signature itself: int32, count 1
+-- the writer puts 1000 (int32, count 1) and then 1004 (bin, count 16) first into the signature itself
 abbrev pub sizeTag : ℕ
 sizeTag = 1000
 
+abbrev pub digestTag : ℕ
+digestTag = 1004
+
 abbrev pub sizeEntry : ℕ → ListEntry
 sizeEntry size = record { tag = sizeTag; ty = 4; count = 1; bytes = bytesOf size }
+
+abbrev pub digestEntry : List ℕ → ListEntry
+digestEntry digest = record { tag = digestTag; ty = 7; count = 16; bytes = digest }
+
+-- its own entries, with a number and a digest, before the caller's
+abbrev pub withOwn : ℕ → List ℕ → List ListEntry → List ListEntry
+withOwn size digest signature = sizeEntry size ∷ digestEntry digest ∷ signature
 
 -- a name: 1 to 65 bytes, none zero
 abbrev pub nameLimit : ℕ
@@ -94,19 +104,19 @@ formReasons list row =
     (check (sizesMeet list row) 32 0
     Pass)
 
--- 32 for a name and two lists as they are lent. The signature's list is tested with the 1000 that comes first, so that a 1000
--- of the caller's is a repeated tag; that 1000 passes whatever its number is.
+-- 32 for a name and two lists as they are lent. The signature's list is tested with the 1000 and the 1004 that come first, so
+-- that one of the caller's is a repeated tag; they pass whatever the number and the 16 bytes are.
 unfoldable pub reasons : List ℕ → List ℕ → List ℕ → List ℕ → List ℕ → Verdict
 reasons name signature signatureRow header headerRow =
     both (formReasons signature signatureRow)
     (both (formReasons header headerRow)
     (both (nameReasons name)
-    (both (listReasons Signature (sizeEntry 0 ∷ entriesOf signature signatureRow))
+    (both (listReasons Signature (withOwn 0 (zeros 16) (entriesOf signature signatureRow)))
     (listReasons Header (entriesOf header headerRow)))))
 
--- for the walk over a structure's lent list: the tags before entry i, with that of the writer's own entry in the signature
+-- for the walk over a structure's lent list: the tags before entry i, with those of the writer's own entries in the signature
 abbrev pub ownTags : Structure → List ℕ
-ownTags Signature = sizeTag ∷ []
+ownTags Signature = digestTag ∷ sizeTag ∷ []
 ownTags Header = []
 
 unfoldable pub tagsBefore : Structure → List ℕ → ℕ → List ℕ

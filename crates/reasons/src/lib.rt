@@ -1,12 +1,13 @@
 // Whether a name and two lists of entries may be written: refusal 32.
 ghost use mathlib.Core.Path.{_≡_};
-ghost use mathlib.Core.List.{_∷_};
 ghost use Prim.Native.Nat.{_/_, _≤_};
 ghost use lib.ListN.{length};
 ghost use Rattle.format.specs.declared.section.Structure.the-variants.{Signature, Header};
 ghost use Rattle.lists.specs.Lists.{entryOf, entriesOf};
 ghost use Rattle.entries.specs.Types.{elementSize};
-ghost use Rattle.reasons.specs.Reasons.{endsAt, dataExact, tagIn, tagsBefore, ownTags, entryReasons, entriesReasons, listReasons, sizeEntry, nameReasons, formReasons, reasons};
+ghost use Rattle.put.specs.Puts.{zeros};
+ghost use Rattle.reasons.specs.Reasons.{endsAt, dataExact, tagIn, tagsBefore, ownTags, withOwn};
+ghost use Rattle.reasons.specs.Reasons.{entryReasons, entriesReasons, listReasons, nameReasons, formReasons, reasons};
 use entries::ElementSize;
 use entries::types::element_size;
 use entries::types::is_lawful;
@@ -18,8 +19,19 @@ use lists::ListRecord;
 use places::StoreOffset;
 use strings::Ending;
 
-// The tag of the entry that the writer puts first in the signature.
-pub const SIZE_TAG: u32 = 1000;
+// The entries that the writer puts first in the signature: 1000, the size, and 1004, the digest.
+pub struct Own {}
+
+impl Own {
+    pub const SIZE_TAG: u32 = 1000;
+
+    pub const DIGEST_TAG: u32 = 1004;
+
+    // How many entries they are, and how many bytes of the store their data takes.
+    pub const ENTRIES: usize = 2;
+
+    pub const STORE: usize = 20;
+}
 
 // The longest name.
 pub const NAME_LIMIT: usize = 65;
@@ -52,17 +64,17 @@ fn data_exact(e: ListRecord, size: ElementSize, bytes: &[u8]) -> bool
     }
 }
 
-// Whether the writer's own entry, in the signature, has the tag.
+// Whether one of the writer's own entries, in the signature, has the tag.
 fn is_own(structure: Structure, tag: u32) -> bool
     ensures { λ r. ⌜ r ≡ tagIn tag (ownTags structure) ⌝ }
 {
     match structure {
-        Structure::Signature => SIZE_TAG == tag,
+        Structure::Signature => Own::DIGEST_TAG == tag || Own::SIZE_TAG == tag,
         Structure::Header => false,
     }
 }
 
-// Whether the writer's own entry, or one of the first `i` entries of a list, has the tag.
+// Whether one of the writer's own entries, or of the first `i` entries of a list, has the tag.
 fn is_repeated(structure: Structure, list: &[u8], i: u32, tag: u32) -> bool
     ensures { λ r. ⌜ r ≡ tagIn tag (tagsBefore structure (now (list .entry)) i) ⌝ }
 {
@@ -120,11 +132,12 @@ fn entries_check(structure: Structure, list: &[u8], row: &[u8]) -> Verdict
     Verdict::Pass
 }
 
-// The reasons of the signature's list, with the 1000 that comes first, whatever its number.
+// The reasons of the signature's list, with the writer's own entries first, whatever their data.
 fn signature_check(list: &[u8], row: &[u8]) -> Verdict
-    ensures { λ r. ⌜ r ≡ listReasons Signature (sizeEntry 0 ∷ entriesOf (now (list .entry)) (now (row .entry))) ⌝ }
+    ensures { λ r. ⌜ r ≡ listReasons Signature (withOwn 0 (zeros 16) (entriesOf (now (list .entry)) (now (row .entry)))) ⌝ }
 {
-    if HeaderRecord::NINDEX_LIMIT as usize <= list.len() / ListRecord::SIZE {
+    let all = list.len() / ListRecord::SIZE + Own::ENTRIES;
+    if (HeaderRecord::NINDEX_LIMIT as usize) < all {
         return Verdict::Fail(32, 0);
     }
     entries_check(Structure::Signature, list, row)

@@ -36,7 +36,8 @@ module _ (name signature signatureRow header headerRow : List ℕ) (room : ℕ) 
         someHeaded = t .0;
         fewHeaded = t .1;
         signedLawful = s .1;
-        notSize = s .2;
+        notSize = λ i l. s .2 i l .0;
+        notDigest = λ i l. s .2 i l .1;
         headedLawful = t .2;
         limit = a .limit;
         fits = a .fits;
@@ -50,7 +51,7 @@ module _ (name signature signatureRow header headerRow : List ℕ) (room : ℕ) 
       let w : Writable name (r .signed) (r .headed) =
       record {
         named = r .named;
-        signed = signed-lawful (r .signed) .1 (r .fewSigned, r .signedLawful, r .notSize);
+        signed = signed-lawful (r .signed) .1 (r .fewSigned, r .signedLawful, λ i l. (r .notSize i l, r .notDigest i l));
         headed = headed-lawful (r .headed) .1 (r .someHeaded, r .fewHeaded, r .headedLawful);
         wideSigned = s .wide;
         wideHeaded = t .wide;

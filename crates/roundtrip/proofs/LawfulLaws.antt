@@ -1,5 +1,5 @@
 -- The reasons of refusal 32 are what the rules say: of one entry (entry-lawful), of entries behind others (entries-lawful),
--- of the signature's list with the 1000 in front (signed-lawful) and of the header's (headed-lawful).
+-- of the signature's list with the 1000 and the 1004 in front (signed-lawful) and of the header's (headed-lawful).
 use Prim.Native.Nat.{ℕ, zero, suc, _+_, _*_, _≤_, _<_}
 use mathlib.Core.Path.{_≡_, refl, sym, _∙_}
 use mathlib.Core.Logic.{_↔_, _≢_}
@@ -17,8 +17,9 @@ use Rattle.entries.specs.declared.types.ElementSize.{ElementSize}
 use Rattle.entries.specs.declared.types.ElementSize.the-variants.{Bytes, ToZero, Unlawful}
 use Rattle.entries.specs.Types.{elementSize, isLawful}
 use Rattle.entries.proofs.RuleLaws.{type-lawful, count-lawful}
+use Rattle.put.specs.Puts.{zeros}
 use Rattle.lists.specs.Lists.{ListEntry}
-use Rattle.reasons.specs.Reasons.{recordOf, exactFor, dataExact, tagIn, entriesReasons, sizeTag, sizeEntry}
+use Rattle.reasons.specs.Reasons.{recordOf, exactFor, dataExact, tagIn, entriesReasons, sizeTag, digestTag, withOwn}
 use Rattle.reasons.proofs.ReasonLaws.{own-passes}
 use Rattle.roundtrip.specs.Lawful.{nth, Strings, LawfulEntry, LawfulEntries}
 use Rattle.reasons.proofs.RightLaws.{EntryRight, entries-right, ListRight}
@@ -169,31 +170,37 @@ headed-lawful entries = (
       record { some = h .0; within = h .1; each = entries-lawful Header entries [] .1 (h .2, λ i l. no-tag (nth entries i .tag)) },
 )
 
--- the signature's list: 1000 comes first, so that its tag is seen
-abbrev NotSize : List ListEntry → Type 0
-NotSize entries = (i : ℕ) → i < length entries → nth entries i .tag ≢ sizeTag
+-- the signature's list: 1000 and 1004 come first, so that their tags are seen
+abbrev NotOwn : List ListEntry → Type 0
+NotOwn entries = (i : ℕ) → i < length entries → (nth entries i .tag ≢ sizeTag) × (nth entries i .tag ≢ digestTag)
 
-not-size : (entries : List ListEntry) → Fresh (sizeTag ∷ []) entries ↔ NotSize entries
-not-size entries = (
-  λ f i l q. fresh-step (nth entries i .tag) sizeTag [] .0 (f i l) .0 (sym q),
-  λ n i l. fresh-step (nth entries i .tag) sizeTag [] .1 (λ q. n i l (sym q), no-tag (nth entries i .tag)),
+not-own : (entries : List ListEntry) → Fresh (digestTag ∷ sizeTag ∷ []) entries ↔ NotOwn entries
+not-own entries = (
+  λ f i l.
+      let k = fresh-step (nth entries i .tag) digestTag (sizeTag ∷ []) .0 (f i l) in
+      (λ q. fresh-step (nth entries i .tag) sizeTag [] .0 (k .1) .0 (sym q), λ q. k .0 (sym q)),
+  λ n i l.
+      fresh-step (nth entries i .tag) digestTag (sizeTag ∷ []) .1 (
+        λ q. n i l .1 (sym q),
+        fresh-step (nth entries i .tag) sizeTag [] .1 (λ q. n i l .0 (sym q), no-tag (nth entries i .tag)),
+      ),
 )
 
 pub signed-lawful : (entries : List ListEntry)
-    → ListRight Signature (sizeEntry 0 ∷ entries)
-    ↔ ((length entries + 1 ≤ nindexLimit) × LawfulEntries Signature entries × NotSize entries)
+    → ListRight Signature (withOwn 0 (zeros 16) entries)
+    ↔ ((length entries + 2 ≤ nindexLimit) × LawfulEntries Signature entries × NotOwn entries)
 signed-lawful entries =
-    let s = own-passes 0 entries in
-    let g = entries-lawful Signature entries (sizeTag ∷ []) in (
+    let s = own-passes 0 (zeros 16) entries refl in
+    let g = entries-lawful Signature entries (digestTag ∷ sizeTag ∷ []) in (
       λ r.
           let w = r .within in
           let k = g .0 (sym s ∙ r .each) in
-          (omega arith, k .0, not-size entries .0 (k .1)),
+          (omega arith, k .0, not-own entries .0 (k .1)),
       λ h.
           let w = h .0 in
           record {
             some = omega arith;
             within = omega arith;
-            each = s ∙ g .1 (h .1, not-size entries .1 (h .2));
+            each = s ∙ g .1 (h .1, not-own entries .1 (h .2));
           },
     )

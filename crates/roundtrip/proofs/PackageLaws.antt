@@ -1,12 +1,14 @@
--- The package of a name and two lists of entries that may be written: where its parts stand, that it passes checks 2 to 13
--- and 16, and that all of it is read back (reads-back).
-use Prim.Native.Nat.{ℕ, _+_, _-_, _≤_, _<_}
+-- The package of a name and two lists of entries that may be written: where its parts stand, that it passes checks 2 to 13,
+-- 16 and 27, and that all of it is read back (reads-back).
+use Prim.Native.Nat.{ℕ, suc, _+_, _-_, _≤_, _<_}
 use mathlib.Core.Path.{_≡_, refl, sym, ap, subst, _∙_}
 use mathlib.Core.Logic.{_≢_}
-use mathlib.Core.List.{List, _++_}
-use lib.ListN.{length, length-append, length-replicate}
+use mathlib.Core.List.{List, _∷_, _++_}
+use lib.ListN.{length, drop, length-append, length-drop, length-replicate}
+use lib.Seq.{take-all}
 use native.Mathlib.Omega.{arith}
 use borrow.Author.Tests.{le-leb, eq-eqb, ne-eqb}
+use Rattle.be.proofs.SameLaws.{same-refl}
 use Rattle.format.specs.Sizes.{leadSize}
 use Rattle.format.specs.declared.section.Section.{Section}
 use Rattle.format.specs.declared.section.Structure.the-variants.{Signature, Header}
@@ -18,16 +20,20 @@ use Rattle.index.specs.Lookup.{taggedIn}
 use Rattle.package.specs.Package.{sizeCheck, structuresCheck, packageCheck, soundCheck, signatureAt, headerAt, headerStart}
 use Rattle.package.specs.Package.{structureOf}
 use Rattle.rules.specs.Rules.{sizeTagCheck}
+use Rattle.md5.specs.Md5.{digest}
+use Rattle.md5.proofs.DigestLaws.{digest-length}
+use Rattle.verify.specs.Digests.{statedIn, fromHeader, digestCheck}
+use Rattle.verify.proofs.ShownLaws.{digest-shown}
 use Rattle.put.specs.Puts.{bytesOf}
 use Rattle.lists.specs.Lists.{ListEntry}
-use Rattle.reasons.specs.Reasons.{sizeEntry}
-use Rattle.layout.specs.Layout.{structureBytes, withSize, leadBytes, gapBytes, written}
+use Rattle.reasons.specs.Reasons.{sizeEntry, digestEntry}
+use Rattle.layout.specs.Layout.{structureBytes, signatureOf, leadBytes, gapBytes, written}
 use Rattle.layout.proofs.LeadLaws.{lead-length}
 use Rattle.layout.proofs.StructureLaws.{structure-length}
 use Rattle.roundtrip.specs.Lawful.{nth, Wide}
-use Rattle.roundtrip.specs.Theorems.{Finds, withSizeOf, ReadsBack}
-use Rattle.roundtrip.proofs.HoldsLaws.{Holds, all, front, rest, moved, within}
-use Rattle.reasons.proofs.RightLaws.{ListRight, size-right}
+use Rattle.roundtrip.specs.Theorems.{Finds, withOwnOf, ReadsBack}
+use Rattle.roundtrip.proofs.HoldsLaws.{Holds, all, front, rest, moved, part, within}
+use Rattle.reasons.proofs.RightLaws.{ListRight, own-right}
 use Rattle.roundtrip.proofs.ReasonLaws.{Writable}
 use Rattle.roundtrip.proofs.RecordLaws.{Reads}
 use Rattle.roundtrip.proofs.StructureLaws.{StructureRead, structure-read}
@@ -40,7 +46,7 @@ module _ (name : List ℕ) (signature header : List ListEntry) (w : Writable nam
   p = written name signature header
 
   abbrev entries : List ListEntry
-  entries = withSize signature header
+  entries = signatureOf signature header
 
   -- where the signature ends, and where the header starts
   abbrev end : ℕ
@@ -81,16 +87,30 @@ module _ (name : List ℕ) (signature header : List ListEntry) (w : Writable nam
       let e = length-append (gapBytes end) (structureBytes header) in
       omega arith
 
-  -- 1000 with its number is as right as with any
+  -- what stands from H to the end is the header, and this is its digest
+  from-start : drop start p ≡ structureBytes header
+  from-start =
+      let a = whole in
+      sym (take-all (length (structureBytes header)) (drop start p) (omega (arith, length-drop start p))) ∙ part header-here
+
+  abbrev digested : List ℕ
+  digested = digest (structureBytes header)
+
+  sixteen : length digested ≡ 16
+  sixteen = digest-length (structureBytes header)
+
+  -- 1000 and 1004 with their data are as right as with any
   entries-right : ListRight Signature entries
-  unfolding withSize
-  entries-right = size-right (length (structureBytes header)) signature (w .signed)
+  unfolding signatureOf
+  entries-right = own-right (length (structureBytes header)) digested signature sixteen (w .signed)
 
   entries-wide : Wide entries
-  unfolding withSize bytesOf
+  unfolding signatureOf bytesOf
   entries-wide =
-      wide-step (sizeEntry (length (structureBytes header))) signature
-      (omega arith, omega arith, omega arith, omega arith) (w .wideSigned)
+      let h = sixteen in
+      wide-step (sizeEntry (length (structureBytes header))) (digestEntry digested ∷ signature)
+      (omega arith, omega arith, omega arith, omega arith)
+      (wide-step (digestEntry digested) signature (omega arith, omega arith, omega arith, omega arith) (w .wideSigned))
 
   signature-read : StructureRead Signature p leadSize entries
   signature-read =
@@ -129,9 +149,12 @@ module _ (name : List ℕ) (signature header : List ListEntry) (w : Writable nam
   size-is : length p - headerStart (signatureAt p) ≡ length (structureBytes header)
   size-is = let a = whole in let b = header-start in omega arith
 
-  with-size : withSizeOf (length p - headerStart (signatureAt p)) signature ≡ entries
-  unfolding withSize
-  with-size = rw size-is
+  digest-is : digest (drop (headerStart (signatureAt p)) p) ≡ digested
+  digest-is = ap (λ (k : ℕ). digest (drop k p)) header-start ∙ ap digest from-start
+
+  with-own : withOwnOf p signature ≡ entries
+  unfolding signatureOf
+  with-own = rw (size-is, digest-is)
 
   module _ (which : ℕ) (n : which ≢ 0) where
     other : structureOf p which ≡ sectionAt p start
@@ -144,14 +167,23 @@ module _ (name : List ℕ) (signature header : List ListEntry) (w : Writable nam
     header-reads k l = rw other (header-read .reads k l)
 
   size-tag : sizeTagCheck p (length p) (signatureAt p) (headerAt p) (taggedIn p (signatureAt p)) ≡ Pass
-  unfolding sizeTagCheck withSize
+  unfolding sizeTagCheck signatureOf
   size-tag =
       let e = whole in
       let l = w .limit in
       let r = signature-read .reads 0 (omega arith) in
       let size = length (structureBytes header) in
-      let k = first-number p (signatureAt p) size (length signature) (omega arith) (signature-read .count) r in
+      let k = first-number p (signatureAt p) size (suc (length signature)) (omega arith) (signature-read .count) r in
       sym (passed _ _ (eq-eqb _ _ (k ∙ sym size-is)) refl)
+
+  digest-passes : digestCheck p (signatureAt p) (headerAt p) ≡ Pass
+  unfolding digestCheck signatureOf
+  digest-passes =
+      let stated : statedIn p (signatureAt p) ≡ digested =
+      digest-shown p sound ∙ finds p 0 sound entries (signature-read .count) (signature-read .reads) 1 (omega arith) .0 in
+      let found : digest (fromHeader p (headerAt p)) ≡ digested =
+      ap (λ (x : Section). digest (fromHeader p x)) header-at ∙ ap digest from-start in
+      sym (passed _ _ (rw (stated, found) (same-refl digested)) refl)
 
   empty : sectionEnd (headerAt p) ≡ length p
   empty = ap sectionEnd header-at ∙ header-read .end ∙ sym whole
@@ -162,14 +194,15 @@ module _ (name : List ℕ) (signature header : List ListEntry) (w : Writable nam
         sound = sound;
         signed =
             all-shown p 0 sound entries (signature-read .count) (signature-read .reads) (entries-right .within)
-            ∙ sym with-size;
+            ∙ sym with-own;
         headed = λ which n.
             all-shown p which sound header (header-count which n) (header-reads which n) (w .headed .within);
         signedFound =
-            subst (λ (x : List ListEntry). Finds p 0 x) (sym with-size)
+            subst (λ (x : List ListEntry). Finds p 0 x) (sym with-own)
             (finds p 0 sound entries (signature-read .count) (signature-read .reads));
         headedFound = λ which n. finds p which sound header (header-count which n) (header-reads which n);
         sized = size-tag;
+        digested = digest-passes;
         named = lead-name name (w .named) p lead-here;
         empty = empty;
       }

@@ -3,7 +3,7 @@
 use Prim.Native.Nat.{ℕ, _+_, _≤_, _<_}
 use mathlib.Core.Path.{_≡_, refl, sym, ap, _∙_}
 use mathlib.Core.Logic.{_↔_, _≢_}
-use mathlib.Core.List.{List, _∷_}
+use mathlib.Core.List.{List}
 use mathlib.Core.Bool.{Bool, true, false, not}
 use lib.ListN.{length, getD}
 use native.Mathlib.Omega.{arith}
@@ -13,8 +13,9 @@ use Rattle.format.specs.Sizes.{packageLimit}
 use Rattle.format.specs.declared.section.Structure.the-variants.{Signature, Header}
 use Rattle.format.specs.declared.verdict.Verdict.the-variants.{Pass}
 use Rattle.format.proofs.VerdictLaws.{passed, inverted, both-pass, both-inverted}
+use Rattle.put.specs.Puts.{zeros}
 use Rattle.lists.specs.Lists.{ListEntry, entriesOf}
-use Rattle.reasons.specs.Reasons.{sizeEntry, hasZero, nameReasons, reasons}
+use Rattle.reasons.specs.Reasons.{withOwn, hasZero, nameReasons, reasons}
 use Rattle.reasons.proofs.RightLaws.{ListRight, list-right, FormRight, form-right}
 use Rattle.layout.specs.Layout.{written}
 use Rattle.plan.specs.Refusals.{roomCheck, writtenOf, writeCheck}
@@ -56,7 +57,7 @@ name-right name = (
 -- a name and two lists of entries that may be written
 pub record Writable (name : List ℕ) (signature header : List ListEntry) : Type 0 where
   pub named : LawfulName name
-  pub signed : ListRight Signature (sizeEntry 0 ∷ signature)
+  pub signed : ListRight Signature (withOwn 0 (zeros 16) signature)
   pub headed : ListRight Header header
   pub wideSigned : Wide signature
   pub wideHeaded : Wide header
@@ -67,7 +68,7 @@ pub record Accepted (name signature signatureRow header headerRow : List ℕ) (r
   pub signedForm : FormRight signature signatureRow
   pub headedForm : FormRight header headerRow
   pub named : LawfulName name
-  pub signed : ListRight Signature (sizeEntry 0 ∷ entriesOf signature signatureRow)
+  pub signed : ListRight Signature (withOwn 0 (zeros 16) (entriesOf signature signatureRow))
   pub headed : ListRight Header (entriesOf header headerRow)
   pub limit : length (writtenOf name signature signatureRow header headerRow) ≤ packageLimit
   pub fits : length (writtenOf name signature signatureRow header headerRow) ≤ room

@@ -9,7 +9,7 @@ use Rattle.format.specs.declared.verdict.Answer.the-variants.{Done}
 use Rattle.lists.specs.Lists.{ListEntry, listOf, rowOf, entriesOf}
 use Rattle.plan.specs.Refusals.{writtenOf}
 use Rattle.writer.specs.Writing.{Wrote}
-use Rattle.roundtrip.specs.Shown.{shown, behindFirst}
+use Rattle.roundtrip.specs.Shown.{shown, behindOwn}
 use Rattle.roundtrip.specs.Theorems.{Octets, Made, ReadBack, WriteAgain}
 use Rattle.roundtrip.proofs.ReasonLaws.{Writable, accepted}
 use Rattle.roundtrip.proofs.PackageLaws.{reads-back}
@@ -52,9 +52,9 @@ module _ (name signature signatureRow header headerRow before after : List ℕ) 
         behind = stands w n (done w h .0) size .2;
       }
 
-  -- what was read, without the 1000
-  signed-read : behindFirst (shown (take n after) 0) ≡ signed
-  signed-read = ap behindFirst (made .reads .signed)
+  -- what was read, without the 1000 and the 1004
+  signed-read : behindOwn (shown (take n after) 0) ≡ signed
+  signed-read = ap behindOwn (made .reads .signed)
 
   headed-read : shown (take n after) 1 ≡ headed
   headed-read = made .reads .headed 1 (λ q. omega arith)

@@ -1,4 +1,4 @@
--- Request 1: what may be written, as rules with no order.
+-- Requests 1 and 3: what may be written, as rules with no order.
 use Prim.Native.Nat.{ℕ, _+_, _*_, _≤_, _<_}
 use mathlib.Core.Path.{_≡_}
 use mathlib.Core.Logic.{_≢_}
@@ -11,7 +11,7 @@ use Rattle.format.specs.Sizes.{packageLimit, nindexLimit}
 use Rattle.entries.specs.declared.types.ElementSize.the-variants.{Bytes, ToZero}
 use Rattle.entries.specs.Types.{elementSize}
 use Rattle.lists.specs.Lists.{ListEntry, listOf, rowOf}
-use Rattle.reasons.specs.Reasons.{sizeTag, nameLimit}
+use Rattle.reasons.specs.Reasons.{sizeTag, digestTag, nameLimit}
 use Rattle.layout.specs.Layout.{written}
 
 abbrev pub nth : List ListEntry → ℕ → ListEntry
@@ -70,13 +70,14 @@ pub record LawfulWriting (name signature signatureRow header headerRow : List �
   pub signedLent : LentAs signature signatureRow signed
   pub headed : List ListEntry
   pub headedLent : LentAs header headerRow headed
-  -- in range for check 7, counting the 1000 that comes first in the signature
-  pub fewSigned : length signed + 1 ≤ nindexLimit
+  -- in range for check 7, counting the 1000 and the 1004 that come first in the signature
+  pub fewSigned : length signed + 2 ≤ nindexLimit
   pub someHeaded : 1 ≤ length headed
   pub fewHeaded : length headed ≤ nindexLimit
-  -- lawful, and none of the signature's is 1000
+  -- lawful, and none of the signature's is 1000 or 1004
   pub signedLawful : LawfulEntries Signature signed
   pub notSize : (i : ℕ) → i < length signed → nth signed i .tag ≢ sizeTag
+  pub notDigest : (i : ℕ) → i < length signed → nth signed i .tag ≢ digestTag
   pub headedLawful : LawfulEntries Header headed
   -- within limit and room
   pub limit : length (written name signed headed) ≤ packageLimit

@@ -1,6 +1,7 @@
 -- What a package shows through the public calls: a walk over an index, and the look-up of each record that it visits.
 use Prim.Native.Nat.{ℕ}
 use mathlib.Core.List.{List, [], _∷_}
+use lib.ListN.{drop}
 use Rattle.format.specs.Sizes.{nindexLimit}
 use Rattle.format.specs.declared.records.IndexRecord.{IndexRecord}
 use Rattle.lookups.specs.Lookup.{findBytes}
@@ -20,7 +21,6 @@ allLookedUp s which (e ∷ rest) = lookedUp s which e ∷ allLookedUp s which re
 abbrev pub shown : List ℕ → ℕ → List ListEntry
 shown s which = allLookedUp s which (walkFrom s which nindexLimit 0)
 
--- all but the first
-abbrev pub behindFirst : List ListEntry → List ListEntry
-behindFirst [] = []
-behindFirst (entry ∷ rest) = rest
+-- all but the writer's own, which are the first two
+abbrev pub behindOwn : List ListEntry → List ListEntry
+behindOwn entries = drop 2 entries

@@ -8,21 +8,31 @@ use Rattle.entries.specs.Types.{elementSize}
 use Rattle.entries.specs.Entries.{countRight, dataEnd, entryCheck}
 use Rattle.repeats.specs.Repeats.{tagBefore}
 use Rattle.structure.specs.Structure.{headerCheck, structureCheck}
+use Rattle.index.specs.Lookup.{findFrom}
 use Rattle.locales.specs.Locales.{localeCheck}
 use Rattle.book.specs.Kinds.{isKnown}
 use Rattle.book.specs.Book.{placesFrom, doseLawful, recordCheck, recordsCheck, lengthCheck, bookCheck}
 use Rattle.book.specs.Doses.{dosesOf}
 use Rattle.buffer.specs.Buffer.{numbersOf}
+use Rattle.words.specs.Words.{wordAt, lowFirst, rotated, auxiliary, increased}
+use Rattle.rounds.specs.Table.{table}
+use Rattle.rounds.specs.Rounds.{assigned, operated, operations, performed, block, blocks}
+use Rattle.md5.specs.Md5.{paddingBytes, lengthBytes, padded, start, output, digest}
+use Rattle.verify.specs.Digests.{digestCheck}
 use Rattle.put.specs.Puts.{bytesOf, fourBytes}
-use Rattle.layout.specs.Layout.{offsetFor, indexFrom, storeFrom, structureBytes, withSize, leadBytes, written}
+use Rattle.layout.specs.Layout.{offsetFor, indexFrom, storeFrom, structureBytes, signatureOf, leadBytes, written}
 use Rattle.samples.specs.Samples.{samples, allRight}
 use Rattle.samples.specs.Written.{smallestRight}
 
 pub samples-right : T (allRight samples)
 unfolding be16At be32At sameBytes stringsFrom check both runFrom elementSize countRight dataEnd tagBefore entryCheck headerCheck
     structureCheck localeCheck isKnown placesFrom doseLawful recordCheck recordsCheck lengthCheck bookCheck dosesOf numbersOf
+    findFrom wordAt lowFirst rotated auxiliary increased table assigned operated operations performed block blocks paddingBytes
+    lengthBytes padded start output digest digestCheck
 samples-right = tt
 
 pub smallest-right : T smallestRight
-unfolding sameBytes elementSize bytesOf fourBytes offsetFor indexFrom storeFrom structureBytes withSize leadBytes written
+unfolding sameBytes elementSize bytesOf fourBytes offsetFor indexFrom storeFrom structureBytes signatureOf leadBytes written
+    wordAt lowFirst rotated auxiliary increased table assigned operated operations performed block blocks paddingBytes
+    lengthBytes padded start output digest
 smallest-right = tt

@@ -1,5 +1,6 @@
 pub mod Stores
 pub mod Books
 pub mod Locales
-pub mod Samples
 pub mod Written
+pub mod Digests
+pub mod Samples

@@ -64,7 +64,7 @@ fn write(name: &[u8]) {
     let mut pkg = [0u8; 65537];
     let n = io::read_full(file, &mut pkg);
     libc::close(file);
-    let mut out = [0u8; 169];
+    let mut out = [0u8; 201];
     let header = b"\x00\x00\x00\x01\x00\x00\x00\x07\x00\x00\x00\x01\x00\x00\x00\x01";
     let answer = writer::write(b"a", b"", b"", header, b"\x07", &mut out);
     io::write_all(STDOUT_FILENO, name);
@@ -179,6 +179,24 @@ fn locales() {
     read(b"check17_leader_before_locales", 2);
 }
 
+// Request 3: the digest from H on, with one bit turned in a dose, in the payload or in the digest.
+fn digests() {
+    read(b"book_payload", 1);
+    read(b"book_payload", 2);
+    read(b"check27_dose_bit", 1);
+    read(b"check27_dose_bit", 2);
+    read(b"check27_payload_bit", 1);
+    read(b"check27_payload_bit", 2);
+    read(b"check27_payload_first_bit", 2);
+    read(b"check27_digest_bit", 1);
+    read(b"check27_digest_bit", 2);
+    read(b"check27_digest_first_bit", 2);
+    read(b"check27_from_the_lead", 2);
+    read(b"check27_without_payload", 2);
+    read(b"check27_after_system", 2);
+    read(b"check27_before_4097_bytes", 2);
+}
+
 fn book_records() {
     read(b"check19_4097_bytes", 2);
     read(b"check20_kind_96", 2);
@@ -202,6 +220,7 @@ fn main() {
     books();
     rules();
     locales();
+    digests();
     book_records();
     write(b"written_smallest");
 }

@@ -3,9 +3,11 @@
 use Prim.Native.Nat.{ℕ}
 use mathlib.Core.Path.{_≡_}
 use mathlib.Core.List.{List}
+use lib.ListN.{length}
 use Rattle.format.specs.Verdicts.{packedOf}
 use Rattle.reading.specs.Reading.{readAnswer}
 use Rattle.reading.specs.Buffers.{numbersIn, bytesAfter}
+use Rattle.verify.specs.Lent.{digestAnswer, digestAfter}
 use Rattle.writer.specs.Writing.{writeAnswer, bufferAfter}
 
 pub record StationRead (edition : ℕ) (s before : List ℕ) (answer : ℕ) (after : List ℕ) : Type 0 where
@@ -17,3 +19,8 @@ pub record StationWrite (name signature signatureRow header headerRow before : L
   where
     pub answered : answer ≡ packedOf (writeAnswer name signature signatureRow header headerRow before)
     pub buffer : after ≡ bufferAfter name signature signatureRow header headerRow before
+
+-- Request 3: the digest, for C
+pub record StationDigest (bytes before : List ℕ) (answer : ℕ) (after : List ℕ) : Type 0 where
+  pub answered : answer ≡ packedOf (digestAnswer (length before))
+  pub buffer : after ≡ digestAfter bytes before

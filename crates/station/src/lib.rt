@@ -4,7 +4,7 @@ ghost use mathlib.Core.Path.{_≡_};
 ghost use Rattle.format.specs.Verdicts.{packedOf};
 ghost use Rattle.elements.specs.Elements.{findElementAnswer};
 ghost use Rattle.lookups.specs.Lookup.{findAnswer};
-ghost use Rattle.station.specs.Station.{StationRead, StationWrite};
+ghost use Rattle.station.specs.Station.{StationRead, StationWrite, StationDigest};
 
 // A look-up: 0 and the data's file offset, or the first failing check of 2 to 13 and 25.
 #[no_mangle]
@@ -29,7 +29,7 @@ pub extern "C" fn station_find_element(
 }
 
 // The reading at an edition: 0 and the dose count, with the doses at the front of the buffer, four bytes to a number,
-// big-endian; or the first failing check of 1 to 24, and the buffer is as it was.
+// big-endian; or the first failing check of 1 to 18, 27 and 19 to 24, and the buffer is as it was.
 #[no_mangle]
 pub extern "C" fn station_read(edition: u32, pkg: &[u8], doses: &mut [u8]) -> u64
     ensures { λ r. ⌜ StationRead edition (now (pkg .entry)) (now (doses .entry)) r (now (doses .exit)) ⌝ }
@@ -52,4 +52,13 @@ pub extern "C" fn station_write(
         (now (header .entry)) (now («header_data» .entry)) (now (out .entry)) r (now (out .exit)) ⌝ }
 {
     writer::write(name, signature, signature_data, header, header_data, out).packed()
+}
+
+// The digest of any bytes: 0 and 16, with the digest at the front of the buffer; or, where it has no room for 16 bytes, 34 at
+// 16, and the buffer is as it was.
+#[no_mangle]
+pub extern "C" fn station_digest(bytes: &[u8], digest: &mut [u8]) -> u64
+    ensures { λ r. ⌜ StationDigest (now (bytes .entry)) (now (digest .entry)) r (now (digest .exit)) ⌝ }
+{
+    verify::put_digest(bytes, digest).packed()
 }

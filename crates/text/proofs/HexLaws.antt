@@ -1,13 +1,14 @@
--- Laws of `hexDigit` and `hexOf`: low-digit, high-digit; of the loop of `hex`: turn, ends; of its answer: within.
+-- Laws of `hexDigit` and `hexOf`: low-digit, high-digit; of the loop of `hex`: turn, ends; of its answer: within;
+-- of a line of sixteen bytes: line-of-sixteen.
 use Prim.Native.Nat.{ℕ, suc, _+_, _*_, _-_, _/_, _%_, _≤_, _<_, min}
 use mathlib.Core.Path.{_≡_, refl, ap, _∙_}
 use mathlib.Core.List.{List, [], _∷_, _++_, append-assoc}
-use lib.ListN.{length, take, drop, getD, set, length-append, length-take}
-use lib.Seq.{take-suc, drop-cons, set-at}
+use lib.ListN.{length, take, drop, getD, set, replicate, length-append, length-take}
+use lib.Seq.{take-suc, take-all, drop-cons, set-at}
 use native.Mathlib.Numerals.{add-one}
 use native.Mathlib.Omega.{arith}
 use borrow.Author.Tests.{lt-ltb, le-ltb}
-use Rattle.text.specs.Hex.{hexDigit, hexOf, shown, Spelled}
+use Rattle.text.specs.Hex.{hexDigit, hexOf, hexLine, shown, Spelled}
 
 pub low-digit : (n : ℕ) → n < 10 → 48 + n ≡ hexDigit n
 unfolding hexDigit
@@ -68,3 +69,9 @@ unfolding shown
 within src before h =
     let n = min (length src) (length before / 2) in
     rw (h .buffer, h .count, length-append, length-hexOf, length-take) (omega arith)
+
+pub line-of-sixteen : (src : List ℕ) {written : ℕ} {after : List ℕ} → length src ≡ 16
+    → Spelled src (replicate 33 10) written after → after ≡ hexLine src
+unfolding hexLine shown
+line-of-sixteen src h spelled =
+    let all : take 16 src ≡ src = take-all 16 src (omega arith) in rw (h, all) at (spelled .buffer)

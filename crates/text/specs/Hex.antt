@@ -14,6 +14,10 @@ unfoldable pub hexOf : List ℕ → List ℕ
 hexOf [] = []
 hexOf (b ∷ bs) = hexDigit (b / 16) ∷ hexDigit (b % 16) ∷ hexOf bs
 
+-- a newline (10) behind them
+unfoldable pub hexLine : List ℕ → List ℕ
+hexLine bs = hexOf bs ++ 10 ∷ []
+
 -- how many bytes of src are spelled in a buffer
 unfoldable pub shown : List ℕ → List ℕ → ℕ
 shown src buffer = min (length src) (length buffer / 2)

@@ -5,7 +5,7 @@ pub mod lines;
 ghost use mathlib.Core.Path.{_≡_};
 ghost use Prim.Native.Nat.{_<_, min};
 ghost use Rattle.text.specs.Decimal.{decimalOf};
-ghost use Rattle.text.specs.Hex.{hexDigit, Spelled};
+ghost use Rattle.text.specs.Hex.{hexDigit, hexLine, Spelled};
 pub use lines::line;
 
 // What a word says.
@@ -74,4 +74,13 @@ pub fn hex(src: &[u8], out: &mut [u8]) -> usize
         i += 1;
     }
     2 * shown
+}
+
+// Sixteen bytes in hex, and a newline.
+pub fn hex_line(src: [u8; 16]) -> [u8; 33]
+    ensures { λ r. ⌜ r ≡ hexLine src ⌝ }
+{
+    let mut line = [b'\n'; 33];
+    hex(&src, &mut line);
+    line
 }

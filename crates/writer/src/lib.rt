@@ -17,8 +17,9 @@ use format::Lead;
 use lists::ListRecord;
 use plan::Plan;
 use plan::Sizes;
+use reasons::Own;
 
-// Puts a package of the given sizes at the front.
+// Puts a package of the given sizes at the front: the header first, since the signature holds its digest.
 fn put_package(
     out: &mut [u8],
     name: &[u8],
@@ -39,13 +40,22 @@ fn put_package(
     let start = sizes.start as usize;
     let end = Lead::SIZE
         + (HeaderRecord::SIZE
-            + IndexRecord::SIZE * (signature.len() / ListRecord::SIZE + 1)
+            + IndexRecord::SIZE * (signature.len() / ListRecord::SIZE + Own::ENTRIES)
             + first);
     let number = sizes.length - sizes.start;
-    layout::put_lead(out, name);
-    structures::put_signature(out, Lead::SIZE, signature, signature_data, first, number);
-    put::zeros(out, end, start - end);
     structures::put_structure(out, start, header, header_data, sizes.header as usize);
+    let digest = md5::md5(be::part(out, start, number as usize));
+    layout::put_lead(out, name);
+    structures::put_signature(
+        out,
+        Lead::SIZE,
+        signature,
+        signature_data,
+        first,
+        number,
+        &digest,
+    );
+    put::zeros(out, end, start - end);
 }
 
 // Writes a package into a buffer: a lead name and, for each of the two structures, a list of entries.

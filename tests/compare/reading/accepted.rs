@@ -173,6 +173,7 @@ pub fn content(random: &mut Random, book: &Book) -> Content {
         lead: free_lead(random),
         items: [signature, header],
         size_off: 0,
+        digest_off: 0,
         gap: random.byte(),
         payload: random.bytes(payload),
         layout: random.pick(&[0, seed]),

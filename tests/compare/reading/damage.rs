@@ -1,4 +1,4 @@
-//! One damage for each of checks 14 to 18 and 23 and each place, with the answer
+//! One damage for each of checks 14 to 18, 23 and 27 and each place, with the answer
 //! it must get.
 
 use super::accepted::{any_count, item, locales, right_item, NO_LINE};
@@ -16,6 +16,8 @@ enum Edit {
     Put(usize, Item),
     /// 1000 is off by this much.
     Size(u32),
+    /// 1004 is the digest with these bits turned over.
+    Digest(u128),
 }
 
 pub struct Damage {
@@ -38,6 +40,7 @@ impl Damage {
                 Edit::Remove(structure, tag) => content.remove(structure, tag),
                 Edit::Put(structure, item) => content.put(structure, item),
                 Edit::Size(off) => content.size_off = off,
+                Edit::Digest(off) => content.digest_off = off,
             }
         }
     }
@@ -58,6 +61,7 @@ impl Damage {
             Edit::Remove(structure, tag) => (*structure, *tag),
             Edit::Put(structure, item) => (*structure, item.tag),
             Edit::Size(_) => (SIGNATURE, 1000),
+            Edit::Digest(_) => (SIGNATURE, 1004),
         });
         edited.chain(self.places.iter().map(|&tag| (HEADER, tag)))
     }
@@ -70,6 +74,10 @@ impl Damage {
     /// More strings than locales.
     pub fn is_of_locales(&self) -> bool {
         !self.places.is_empty()
+    }
+
+    pub fn is_of_digest(&self) -> bool {
+        self.number == 27
     }
 
     /// Two damages that leave each other alone: other tags, and another rule.
@@ -189,6 +197,7 @@ pub fn all(content: &Content, random: &mut Random) -> Vec<Damage> {
     }
     translations(&mut list, random);
     texts(&mut list, random);
+    digest(&mut list, random);
     weight(&mut list, random);
     list.damages
 }
@@ -489,6 +498,15 @@ fn texts(list: &mut List, random: &mut Random) {
             wrong[position] = name.as_bytes();
             list.text("directory's name", 6, 1118, strings(1118, 8, &wrong));
         }
+    }
+}
+
+/// Check 27: one bit, some bits, all bits; it stands between 18 and 19.
+fn digest(list: &mut List, random: &mut Random) {
+    let any = u128::from(random.next()) << 64 | u128::from(random.next());
+    for turned in [1, 1 << 127, 1 << random.below(128), any | 1, u128::MAX] {
+        let edits = vec![Edit::Digest(turned)];
+        list.add("digest", (18, 1000), (27, 1004), edits);
     }
 }
 

@@ -74,6 +74,12 @@ pub fn try_out() {
     }
     assert!(!holds(&accepted, &read(24, 2, 7), plain));
     assert!(!holds(&accepted, &read(16, 20002, 7), plain));
+    // A wrong digest is no matter of editions.
+    assert!(holds(&read(27, 1004, 7), &read(27, 1004, 7), plain));
+    assert!(!holds(&read(27, 1004, 7), &accepted, plain));
+    assert!(!holds(&accepted, &read(27, 1004, 7), plain));
+    assert!(!holds(&read(24, 2, 7), &read(27, 1004, 7), plain));
+    assert!(!holds(&read(27, 1004, 7), &read(24, 2, 7), plain));
     assert!(holds(&read(22, 0, 7), &read(22, 0, 7), plain));
     assert!(!holds(&read(22, 0, 7), &read(22, 7, 7), plain));
     assert!(!holds(&read(21, 0, 7), &read(22, 0, 7), plain));

@@ -6,17 +6,20 @@ use super::accepted::{content, fill};
 use super::books::{dose, length, right_dose, Book};
 use super::damage;
 use super::desk::{Desk, Outcome};
+use super::digests::digests;
 use super::locales::locales;
+use super::written::written;
 use crate::content::{bin, words, Content, HEADER, SIGNATURE};
 use crate::damage as structures;
 use crate::families::change;
 use crate::fence::ROOM;
+use crate::maker::repair_digest;
 use crate::questions::EXTREMES;
 use crate::random::Random;
 use crate::real;
 
 /// All families with their names, in the order in which they run.
-pub const ALL: [(&str, fn(&mut Desk, &mut Random)); 17] = [
+pub const ALL: [(&str, fn(&mut Desk, &mut Random)); 19] = [
     ("accepted packages", accepted),
     ("accepted packages of many records", many_records),
     ("sizes of accepted packages", sizes),
@@ -34,6 +37,8 @@ pub const ALL: [(&str, fn(&mut Desk, &mut Random)); 17] = [
     ("changed bytes", changed_bytes),
     ("extreme words", extreme_fields),
     ("locales", locales),
+    ("digests of packages", digests),
+    ("books that were written", written),
 ];
 
 #[rustfmt::skip]
@@ -42,7 +47,8 @@ const OTHER_EDITIONS: [u32; 16] = [
     (1 << 31) - 1, 1 << 31, (1 << 31) + 1, (1 << 31) + 2, u32::MAX,
 ];
 
-fn any(random: &mut Random) -> (Content, Book) {
+/// An accepted content of any shape, and its book.
+pub fn any(random: &mut Random) -> (Content, Book) {
     let most = random.pick(&[16, 30, 30, 120, 400]);
     let book = Book::right(random, most);
     (content(random, &book), book)
@@ -431,6 +437,13 @@ fn any_books(desk: &mut Desk, random: &mut Random) {
     }
 }
 
+/// Puts the digest right three times in four, so that later checks are reached.
+fn maybe_repair(random: &mut Random, bytes: &mut [u8]) {
+    if !random.one_in(4) {
+        repair_digest(bytes);
+    }
+}
+
 /// Accepted packages with some bytes changed; items of other packages put in.
 fn changed_bytes(desk: &mut Desk, random: &mut Random) {
     for _ in 0..800 {
@@ -439,6 +452,7 @@ fn changed_bytes(desk: &mut Desk, random: &mut Random) {
         for _ in 0..12 {
             let mut bytes = bytes.clone();
             change(random, &mut bytes);
+            maybe_repair(random, &mut bytes);
             desk.unknown(random, &bytes);
         }
         let damages = damage::all(&right, random);
@@ -466,6 +480,7 @@ fn extreme_fields(desk: &mut Desk, random: &mut Random) {
                 if random.one_in(4) {
                     let mut bytes = right.clone();
                     bytes[at..at + 4].copy_from_slice(&value.to_be_bytes());
+                    maybe_repair(random, &mut bytes);
                     desk.unknown(random, &bytes);
                 }
             }
@@ -483,6 +498,13 @@ pub fn other_writers(desk: &mut Desk, random: &mut Random, data: &Path) {
         };
         let right = std::fs::read(&file).unwrap();
         desk.case(random, &right, &known);
+        let mut turned = right.clone();
+        turned[right.len() - 1] ^= 1;
+        let other = match known[0] {
+            Ok(_) => refused(27, 1004),
+            Err(_) => known.clone(),
+        };
+        desk.case(random, &turned, &other);
         for round in 0..1500 {
             let mut bytes = right.clone();
             if round % 3 == 0 {
@@ -490,6 +512,7 @@ pub fn other_writers(desk: &mut Desk, random: &mut Random, data: &Path) {
             } else {
                 change(random, &mut bytes);
             }
+            maybe_repair(random, &mut bytes);
             desk.unknown(random, &bytes);
         }
     }

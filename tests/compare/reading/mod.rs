@@ -5,8 +5,10 @@ mod books;
 mod damage;
 mod demand3;
 mod desk;
+mod digests;
 mod families;
 mod locales;
+mod written;
 
 use std::path::Path;
 

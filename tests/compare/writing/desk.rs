@@ -196,7 +196,7 @@ impl Desk<'_> {
         }
         let needed = match known {
             Ok(package) => package.len().min(LIMIT),
-            Err(_) => 169 + random.below(300),
+            Err(_) => 201 + random.below(300),
         };
         self.write(needed + random.below(40), Some(known));
         let room = match random.below(6) {
@@ -215,7 +215,7 @@ impl Desk<'_> {
     /// Lists of which nothing is known.
     pub fn unknown(&mut self, random: &mut Random, lent: &Lent) {
         self.lend(lent);
-        let room = random.pick(&[0, 168, 169, 200, 400, 2000]);
+        let room = random.pick(&[0, 169, 200, 201, 400, 2000]);
         self.write(room, None);
     }
 }

@@ -68,14 +68,15 @@ fn alignments(desk: &mut Desk, random: &mut Random) {
     }
 }
 
-/// Up to 512 in each structure, the signature's with 1000; and more.
+/// Up to 512 in each structure, the signature's with 1000 and 1004; and more.
 fn many_entries(desk: &mut Desk, random: &mut Random) {
-    for count in [1, 2, 15, 16, 17, 64, 127, 128, 255, 256, 257, 510, 511] {
+    for count in [1, 2, 15, 16, 17, 64, 127, 128, 255, 256, 257, 508, 509, 510] {
         for counts in [
             [count, 1],
             [0, count],
             [count, count],
             [count - 1, count + 1],
+            [count, count + 2],
         ] {
             let lists = lists(random, counts, 3);
             right(desk, random, &lists);
@@ -84,11 +85,11 @@ fn many_entries(desk: &mut Desk, random: &mut Random) {
     let least = lists(random, [0, 1], 1);
     right(desk, random, &least);
     // One entry too many, and more; no data is too much.
-    for count in [512, 513, 514, 600, 1024, 4096, ROOM / 16 - 1] {
+    for count in [511, 512, 513, 514, 600, 1024, 4096, ROOM / 16 - 2] {
         let signature = lists(random, [count, 1], 1);
         let known = Err(wrong::TOO_MANY_IN_SIGNATURE);
         desk.case(random, &signature.lent(), &known);
-        let header = lists(random, [1, count + 1], 1);
+        let header = lists(random, [1, count + 2], 1);
         let known = Err(wrong::TOO_MANY_IN_HEADER);
         desk.case(random, &header.lent(), &known);
     }
@@ -254,9 +255,10 @@ fn pairs_of_wrongs(desk: &mut Desk, random: &mut Random) {
 /// Any two entries of long lists; tags that differ in one bit don't repeat, nor does a
 /// tag of the other structure.
 fn repeated_tags(desk: &mut Desk, random: &mut Random) {
-    for count in [2, 3, 8, 64, 511, 512] {
+    for count in [2, 3, 8, 64, 510, 512] {
         for structure in [SIGNATURE, HEADER] {
-            let count = count - usize::from(structure == SIGNATURE && count == 512);
+            let most = [512 - OWN.len(), 512][structure];
+            let count = most.min(count);
             let mut right_lists = lists(random, [1, 1], 1);
             right_lists.entries[structure] = (0..count as u32)
                 .map(|n| entry(random, structure, 2000 + n, Some(7), 1))
@@ -287,7 +289,9 @@ fn repeated_tags(desk: &mut Desk, random: &mut Random) {
     for _ in 0..50 {
         let mut lists = small(random);
         lists.entries[HEADER] = lists.entries[SIGNATURE].clone();
-        lists.entries[HEADER].push(entry(random, HEADER, 1000, None, 2));
+        for tag in OWN {
+            lists.entries[HEADER].push(entry(random, HEADER, tag, None, 2));
+        }
         right(desk, random, &lists);
     }
 }
@@ -298,7 +302,7 @@ fn extreme_numbers(desk: &mut Desk, random: &mut Random) {
         let lists = small(random);
         for structure in [SIGNATURE, HEADER] {
             for at in 0..lists.entries[structure].len() {
-                for number in EXTREMES.into_iter().chain([999, 1000, 1001]) {
+                for number in EXTREMES.into_iter().chain(999..=1005) {
                     extreme_tag(desk, random, &lists, structure, at, number);
                     for field in 1..4 {
                         let mut lent = lists.lent();
@@ -324,8 +328,8 @@ fn extreme_tag(
     let mut lists = lists.clone();
     lists.entries[structure][at].tag = tag;
     let same = |entry: &&Entry| entry.tag == tag;
-    let known = if structure == SIGNATURE && tag == 1000 {
-        Err(wrong::OWN_1000)
+    let known = if structure == SIGNATURE && OWN.contains(&tag) {
+        Err([wrong::OWN_1000, wrong::OWN_1004][usize::from(tag == 1004)])
     } else if lists.entries[structure].iter().filter(same).count() > 1 {
         Err(wrong::REPEATED)
     } else {
@@ -371,7 +375,7 @@ fn any_lists(desk: &mut Desk, random: &mut Random) {
 
 fn any_entry(random: &mut Random, structure: usize) -> Entry {
     let tag = match random.below(40) {
-        0 => 1000,
+        0 => random.pick(&OWN),
         _ => 990 + random.below(20) as u32,
     };
     let ty = match random.below(20) {
@@ -425,6 +429,7 @@ fn translated(desk: &mut Desk, random: &mut Random) {
                 let new = Entry::new(tag, 9, count as u32, data);
                 list.insert(at.min(list.len()), new);
                 let known = match count {
+                    _ if structure == SIGNATURE && tag == 1004 => Err(wrong::OWN_1004),
                     0 => Err(wrong::COUNT_0),
                     1 => Ok(lists.package()),
                     _ if structure == SIGNATURE => Err(wrong::TRANSLATIONS_IN_SIGNATURE),

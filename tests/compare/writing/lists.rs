@@ -1,7 +1,8 @@
 //! Lists of entries, right ones and their parts as they are lent, and the package that
 //! must be written from them.
 
-use crate::maker::{is_single, lead, size_of, Package, Structure, S};
+use crate::maker::md5::md5;
+use crate::maker::{is_single, lead, size_of, Package, Structure};
 use crate::random::Random;
 use crate::shapes::LAWFUL;
 
@@ -59,19 +60,33 @@ impl Lists {
 
     /// The package that must be written, if the lists are right.
     pub fn package(&self) -> Vec<u8> {
-        let mut signature = vec![Entry::new(1000, 4, 1, vec![0; 4])];
+        let header = structure(&self.entries[HEADER]);
+        let mut signature = own(header.bytes());
         signature.extend(self.entries[SIGNATURE].iter().cloned());
-        let mut package = Package::of(structure(&signature), structure(&self.entries[HEADER]));
+        let mut package = Package::of(structure(&signature), header);
         package.lead = lead();
         package.lead[10..76].fill(0);
         package.lead[10..10 + self.name.len()].copy_from_slice(&self.name);
-
-        let mut bytes = package.bytes();
-        let size = (bytes.len() - package.h()) as u32;
-        let at = S + 16 + 16 * signature.len();
-        bytes[at..at + 4].copy_from_slice(&size.to_be_bytes());
-        bytes
+        package.bytes()
     }
+
+    /// The writer's own entries for these lists.
+    pub fn own(&self) -> Vec<Entry> {
+        own(structure(&self.entries[HEADER]).bytes())
+    }
+}
+
+/// Tags of the writer's own entries, the first of the signature.
+pub const OWN: [u32; 2] = [1000, 1004];
+
+/// The writer's own entries for a package that has these bytes from H on: how many they are,
+/// and their digest.
+fn own(from_h: Vec<u8>) -> Vec<Entry> {
+    let size = from_h.len() as u32;
+    vec![
+        Entry::new(OWN[0], 4, 1, size.to_be_bytes().to_vec()),
+        Entry::bin(OWN[1], md5(&from_h).to_vec()),
+    ]
 }
 
 /// Data packed in list order, with zero bytes for alignment.
@@ -184,13 +199,13 @@ pub fn entry(
 }
 
 /// Different tags, rising or in any order: around 1000, small, extreme. The signature's
-/// don't have 1000.
+/// don't have the writer's own.
 fn tags(random: &mut Random, structure: usize, count: usize) -> Vec<u32> {
     let mut tags = vec![0, 1, 62, 63, 100, 999, 1 << 31, u32::MAX, 1000 + (1 << 16)];
-    if structure == HEADER {
-        tags.push(1000);
+    tags.extend(1000..1002 + count as u32);
+    if structure == SIGNATURE {
+        tags.retain(|tag| !OWN.contains(tag));
     }
-    tags.extend(1001..1001 + count as u32);
     random.shuffle(&mut tags);
     tags.truncate(count);
     if random.one_in(3) {

@@ -1,8 +1,8 @@
 //! `station_write` against the reference.
 
-mod desk;
+pub mod desk;
 mod families;
-mod lists;
+pub mod lists;
 mod round_trip;
 mod wrong;
 

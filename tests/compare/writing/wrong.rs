@@ -1,11 +1,11 @@
 //! Lists and names that are wrong in one way, each with its reason for 32.
 
-use super::lists::{data, numbers, Entry, Lent, Lists, HEADER, SIGNATURE};
+use super::lists::{data, numbers, Entry, Lent, Lists, HEADER, OWN, SIGNATURE};
 use crate::maker::{is_single, size_of};
 use crate::random::Random;
 
 /// Every reason for 32; each must come up.
-pub const REASONS: [&str; 21] = [
+pub const REASONS: [&str; 23] = [
     TYPE,
     COUNT_0,
     COUNT_NOT_1,
@@ -24,6 +24,8 @@ pub const REASONS: [&str; 21] = [
     LONG_NAME,
     ZERO_IN_NAME,
     OWN_1000,
+    OWN_1004,
+    OWN_BOTH,
     LIST_LENGTH,
     SIZE_PAST_END,
     LEFT_OVER,
@@ -42,11 +44,13 @@ pub const STRINGS_MISSING: &str = "fewer strings than the count";
 pub const STRINGS_OVER: &str = "more strings than the count";
 pub const NO_ENTRY: &str = "no entry in the header (check 7)";
 pub const TOO_MANY_IN_HEADER: &str = "over 512 in the header (check 7)";
-pub const TOO_MANY_IN_SIGNATURE: &str = "over 512 in the signature, with 1000 (check 7)";
+pub const TOO_MANY_IN_SIGNATURE: &str = "over 512 in the signature, with 1000 and 1004 (check 7)";
 pub const EMPTY_NAME: &str = "empty name";
 pub const LONG_NAME: &str = "name over 65 bytes";
 pub const ZERO_IN_NAME: &str = "zero byte in the name";
 pub const OWN_1000: &str = "1000 in the caller's signature";
+pub const OWN_1004: &str = "1004 in the caller's signature";
+pub const OWN_BOTH: &str = "1000 and 1004 in the caller's signature";
 pub const LIST_LENGTH: &str = "list's length no multiple of 16";
 pub const SIZE_PAST_END: &str = "size past the data's end";
 pub const LEFT_OVER: &str = "data that belongs to no entry";
@@ -215,7 +219,7 @@ fn strings_data(makes: &mut Makes, at: usize, ty: u32, count: u32, data: &[u8]) 
     }
 }
 
-/// The tag of an earlier entry; 1000.
+/// The tag of an earlier entry; 1000 and 1004.
 fn tags(makes: &mut Makes, at: usize, random: &mut Random) {
     let entries = &makes.right.entries[makes.structure];
     if at > 0 {
@@ -228,6 +232,7 @@ fn tags(makes: &mut Makes, at: usize, random: &mut Random) {
     }
     if makes.structure == SIGNATURE {
         makes.entry(OWN_1000, at, |entry| entry.tag = 1000);
+        makes.entry(OWN_1004, at, |entry| entry.tag = 1004);
     }
 }
 
@@ -264,19 +269,33 @@ fn list_form(makes: &mut Makes, random: &mut Random) {
         sizes(makes, at, &entries[at], random);
     }
     if makes.structure == SIGNATURE {
-        let own = Entry::new(1000, 4, 1, size_entry(makes.right));
-        makes.list(OWN_1000, |entries| entries.insert(0, own.clone()));
-        makes.list(OWN_1000, |entries| entries.push(own));
+        own_entries(makes);
     } else {
         makes.list(NO_ENTRY, |entries| entries.clear());
     }
 }
 
-/// The data of the right 1000.
-fn size_entry(right: &Lists) -> Vec<u8> {
-    let package = right.package();
-    let at = 96 + 16 + 16 * (1 + right.entries[SIGNATURE].len());
-    package[at..at + 4].to_vec()
+/// The writer's own entries as they would be written: each alone and both, in front, at the
+/// end and apart; 1004 of another count.
+fn own_entries(makes: &mut Makes) {
+    let own = makes.right.own();
+    for (entry, reason) in own.iter().zip([OWN_1000, OWN_1004]) {
+        makes.list(reason, |entries| entries.insert(0, entry.clone()));
+        makes.list(reason, |entries| entries.push(entry.clone()));
+    }
+    for count in [1, 15, 17] {
+        let other = Entry::bin(OWN[1], vec![0; count]);
+        makes.list(OWN_1004, |entries| entries.push(other));
+    }
+    let [size, digest] = [0, 1].map(|at: usize| own[at].clone());
+    for [first, second] in [[&size, &digest], [&digest, &size]] {
+        let both = [first.clone(), second.clone()];
+        makes.list(OWN_BOTH, |entries| drop(entries.splice(0..0, both)));
+        makes.list(OWN_BOTH, |entries| {
+            entries.insert(0, first.clone());
+            entries.push(second.clone());
+        });
+    }
 }
 
 /// Sizes past the data's end; with bin the count is the size, so that no other rule is

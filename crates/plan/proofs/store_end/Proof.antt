@@ -12,7 +12,7 @@ use Rattle.plan.proofs.store_end.Tie as tie
 
 abbrev Inv-loop : tie.InvT-loop
 Inv-loop list row start n at₀ filled₀ i₀ at filled i = (i ≤ n) × (16 * n ≤ length list)
-    × (at + sizesFrom list (n - i) i ≡ length row) × (filled ≤ 4 + at + 3 * i)
+    × (at + sizesFrom list (n - i) i ≡ length row) × (filled ≤ 20 + at + 3 * i)
     × (start + length (storeFrom start (entriesFrom list row n 0 0))
     ≡ filled + length (storeFrom filled (entriesFrom list row (n - i) i at)))
 

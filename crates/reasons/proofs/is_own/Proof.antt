@@ -11,10 +11,13 @@ enum-told-2 : tie.Need-enum-told-2
 enum-told-2 c = search needs
 
 returns : tie.Need-returns
-returns c = search laws.own-signed
+returns c = search laws.own-digest
 
 returns-2 : tie.Need-returns-2
-returns-2 c = search laws.own-headed
+returns-2 c = search laws.own-size
+
+returns-3 : tie.Need-returns-3
+returns-3 c = search laws.own-headed
 
 pub is-own-spec : {M : Type 1} → statement M
-is-own-spec = tie.close (tie.spec enum-told enum-told-2 returns returns-2)
+is-own-spec = tie.close (tie.spec enum-told enum-told-2 returns returns-2 returns-3)

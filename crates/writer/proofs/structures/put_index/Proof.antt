@@ -14,7 +14,7 @@ use Rattle.writer.proofs.structures.put_index.Tie as tie
 
 abbrev Inv-loop : tie.InvT-loop
 Inv-loop out₀ place start list row n at₀ filled₀ i₀ out at filled i = (i ≤ n) × (16 * n ≤ length list)
-    × (at + sizesFrom list (n - i) i ≡ length row) × (filled ≤ 4 + at + 3 * i)
+    × (at + sizesFrom list (n - i) i ≡ length row) × (filled ≤ 20 + at + 3 * i)
     × (sets out₀ place (indexFrom start (entriesFrom list row n 0 0))
     ≡ sets out (place + 16 * i) (indexFrom filled (entriesFrom list row (n - i) i at))) × (length out ≡ length out₀)
 

@@ -15,7 +15,7 @@ use Rattle.writer.proofs.structures.put_store.Tie as tie
 
 abbrev Inv-loop : tie.InvT-loop
 Inv-loop out₀ place start list row n to₀ from₀ at₀ filled₀ i₀ out to from at filled i = (i ≤ n) × (16 * n ≤ length list)
-    × (at + sizesFrom list (n - i) i ≡ length row) × (filled ≤ 4 + at + 3 * i) × (from ≤ at)
+    × (at + sizesFrom list (n - i) i ≡ length row) × (filled ≤ 20 + at + 3 * i) × (from ≤ at)
     × (to + (at - from) + length (storeFrom filled (entriesFrom list row (n - i) i at)) ≤ length out₀)
     × (sets out₀ place (storeFrom start (entriesFrom list row n 0 0))
     ≡ sets out to (take (at - from) (drop from row) ++ storeFrom filled (entriesFrom list row (n - i) i at)))
