@@ -105,9 +105,6 @@ module _ (s : List ℕ) where
         ∙ append-assoc left (128 ∷ replicate zeros 0) count
         ∙ ap (λ (x : List ℕ). left ++ 128 ∷ (replicate zeros 0 ++ x)) (counts ∙ ap (lowFirst 8) bits)
 
-    pub length-ended : rest + 1 + zeros + 8 ≡ length (take (rest + 1 + zeros + 8) l)
-    length-ended = sym (ap length ended ∙ length-ending)
-
   pub finished-is : (T l : List ℕ) (p q : State) → T ≡ table → l ≡ left ++ ending → p ≡ blocks l T (length l / 64) 0 q
       → p ≡ finished s q
   unfolding finished

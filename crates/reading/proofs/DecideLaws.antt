@@ -1,4 +1,4 @@
--- Checks 1 to 24 and what they leave in the buffer, for each way through the functions.
+-- Checks 1 to 24, and 27, and what they leave in the buffer, for each way through the functions.
 use Prim.Native.Nat.{ℕ, _≤_}
 use mathlib.Core.Path.{_≡_, refl, sym, ap, _∙_}
 use mathlib.Core.List.{List, [], _∷_}

@@ -1,7 +1,9 @@
 -- The buffer's first bytes are what is left of the message, and the padding.
 -- Assumes nothing.
+use mathlib.Core.Path.{sym}
+use lib.Seq.{length-take-le}
 use borrow.Author.Needs.{needs}
-use Rattle.md5.proofs.EndingLaws.{ended, length-ended, finished-is}
+use Rattle.md5.proofs.EndingLaws.{ended, finished-is}
 use Rattle.md5.proofs.finish.Statement.{statement}
 use Rattle.md5.proofs.finish.Tie as tie
 
@@ -45,7 +47,7 @@ array-share-prefix-last : tie.Need-array-share-prefix-last
 array-share-prefix-last c = search needs
 
 slice-aggregate-run : tie.Need-slice-aggregate-run
-slice-aggregate-run c = search length-ended
+slice-aggregate-run c = sym (length-take-le _ _ (search needs))
 
 run-requires : tie.Need-run-requires
 run-requires c κs = search needs
