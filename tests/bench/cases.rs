@@ -8,48 +8,9 @@ use reference::writer::write_for_c;
 use reference::{reading, Record};
 
 use crate::lists::{lent, Lists};
-use crate::packages::{accepted, free, Order, Plan, ORDERS, USUAL};
+use crate::packages::{accepted, Order, Plan, ABSENT, ORDERS, SCATTERED, SLOW, USUAL};
 use crate::random::Random;
-use crate::{librpm, openssl};
-
-extern "C" {
-    fn station_read(
-        edition: u32,
-        package: *const u8,
-        len: usize,
-        doses: *mut u8,
-        room: usize,
-    ) -> u64;
-    fn station_find(package: *const u8, len: usize, structure: u32, tag: u32, ty: u32) -> u64;
-    fn station_find_element(
-        package: *const u8,
-        len: usize,
-        structure: u32,
-        tag: u32,
-        ty: u32,
-        element: u32,
-    ) -> u64;
-    fn station_write(
-        name: *const u8,
-        name_len: usize,
-        signature: *const u8,
-        signature_len: usize,
-        signature_data: *const u8,
-        signature_data_len: usize,
-        header: *const u8,
-        header_len: usize,
-        header_data: *const u8,
-        header_data_len: usize,
-        package: *mut u8,
-        package_len: usize,
-    ) -> u64;
-    fn station_digest(
-        bytes: *const u8,
-        bytes_len: usize,
-        digest: *mut u8,
-        digest_len: usize,
-    ) -> u64;
-}
+use crate::{library, librpm, openssl};
 
 #[derive(Clone, Copy)]
 pub enum Call {
@@ -65,10 +26,12 @@ pub enum Call {
     Digest,
 }
 
-#[derive(Clone, Copy, PartialEq, Eq)]
+#[derive(Clone, Copy, Debug, PartialEq, Eq)]
 pub enum Side {
     Library,
     Reference,
+    /// An older library.
+    Before,
     Librpm,
     Openssl,
 }
@@ -79,11 +42,11 @@ const ANSWERING: [Side; 2] = [Side::Library, Side::Reference];
 /// Room for any package.
 const ROOM: usize = 65_536;
 /// Room for any book's doses.
-const DOSES: usize = 585 * 8;
+pub const DOSES: usize = 585 * 8;
 
 /// What is written to: doses or a digest at its front, or a package.
 #[derive(PartialEq)]
-pub struct Buffer(Vec<u8>);
+pub struct Buffer(pub Vec<u8>);
 
 impl Buffer {
     pub fn new() -> Buffer {
@@ -98,54 +61,11 @@ pub struct Case {
     /// A package, or the bytes that are digested.
     pub package: Vec<u8>,
     /// What the package is written from; empty for other calls.
-    lists: Lists,
-    call: Call,
+    pub lists: Lists,
+    pub call: Call,
 }
 
 impl Case {
-    #[inline(never)]
-    fn library(&self, Buffer(buffer): &mut Buffer) -> u64 {
-        let package = black_box(&self.package[..]);
-        let (at, len) = (package.as_ptr(), package.len());
-        match black_box(self.call) {
-            Call::Read(edition) => unsafe {
-                station_read(edition, at, len, buffer.as_mut_ptr(), DOSES)
-            },
-            Call::Find(structure, tag, ty) => unsafe { station_find(at, len, structure, tag, ty) },
-            Call::Element(structure, tag, ty, element) => unsafe {
-                station_find_element(at, len, structure, tag, ty, element)
-            },
-            Call::Write => self.library_writes(buffer),
-            Call::Digest => unsafe {
-                station_digest(at, len, buffer.as_mut_ptr(), openssl::DIGEST)
-            },
-        }
-    }
-
-    fn library_writes(&self, buffer: &mut [u8]) -> u64 {
-        let Lists {
-            name,
-            signature: [signature, signature_data],
-            header: [header, header_data],
-        } = black_box(&self.lists);
-        unsafe {
-            station_write(
-                name.as_ptr(),
-                name.len(),
-                signature.as_ptr(),
-                signature.len(),
-                signature_data.as_ptr(),
-                signature_data.len(),
-                header.as_ptr(),
-                header.len(),
-                header_data.as_ptr(),
-                header_data.len(),
-                buffer.as_mut_ptr(),
-                buffer.len(),
-            )
-        }
-    }
-
     #[inline(never)]
     fn reference(&self, Buffer(buffer): &mut Buffer) -> u64 {
         let package = black_box(&self.package[..]);
@@ -169,9 +89,14 @@ impl Case {
         write_for_c(&lists.name, signature, header, buffer)
     }
 
+    /// 1 where it imports both headers, and finds the tag that is asked for; else 0.
     #[inline(never)]
     fn librpm(&self) -> u64 {
-        u64::from(librpm::open(black_box(&self.package[..])))
+        let package = black_box(&self.package[..]);
+        u64::from(match black_box(self.call) {
+            Call::Find(structure, tag, _) => librpm::find(package, structure, tag),
+            _ => librpm::open(package),
+        })
     }
 
     /// Its answer is that of the others, so that all can be compared.
@@ -182,28 +107,38 @@ impl Case {
         openssl::DIGEST as u64
     }
 
-    /// Who is measured: librpm where it is linked, for readings, if it takes the package; openssl
-    /// where it is linked, for digests. A check by itself is measured in the library alone.
+    /// Who is measured.
     pub fn sides(&self) -> Vec<Side> {
-        if self.group.starts_with("check") {
-            return vec![Side::Library];
-        }
         let mut sides = ANSWERING.to_vec();
-        if self.is_reading() && librpm::open(&self.package) {
-            sides.push(Side::Librpm);
-        }
-        if self.is_digest() && openssl::LINKED {
-            sides.push(Side::Openssl);
-        }
+        sides.extend(self.before());
+        sides.extend(self.peer());
         sides
     }
 
-    pub fn is_reading(&self) -> bool {
-        matches!(self.call, Call::Read(_))
+    /// librpm for readings and look-ups, openssl for digests; or the word why it takes no part.
+    pub fn peer(&self) -> Result<Side, &'static str> {
+        match self.call {
+            _ if self.is_before_and_after() => Err("none"),
+            Call::Element(..) | Call::Write => Err("none"),
+            Call::Read(_) | Call::Find(..) if !librpm::LINKED => Err("missing"),
+            Call::Read(_) | Call::Find(..) if !librpm::open(&self.package) => Err("refused"),
+            Call::Read(_) | Call::Find(..) => Ok(Side::Librpm),
+            Call::Digest if !openssl::LINKED => Err("missing"),
+            Call::Digest => Ok(Side::Openssl),
+        }
     }
 
-    pub fn is_digest(&self) -> bool {
-        matches!(self.call, Call::Digest)
+    /// The older library, or the word why it takes no part.
+    pub fn before(&self) -> Result<Side, &'static str> {
+        match self.is_before_and_after() {
+            true if library::BEFORE => Ok(Side::Before),
+            true => Err("missing"),
+            false => Err("none"),
+        }
+    }
+
+    fn is_before_and_after(&self) -> bool {
+        self.group.starts_with("orders ")
     }
 
     /// The records of signature and header; 0 where they are not sound.
@@ -217,27 +152,29 @@ impl Case {
     /// One call.
     pub fn run(&self, side: Side, buffer: &mut Buffer) -> u64 {
         match side {
-            Side::Library => self.library(buffer),
+            Side::Library => library::run(self, buffer),
             Side::Reference => self.reference(buffer),
+            Side::Before => library::run_before(self, buffer),
             Side::Librpm => self.librpm(),
             Side::Openssl => self.openssl(buffer),
         }
     }
 
-    /// The answer; library and reference, and openssl, must agree on it and on what they write.
+    /// The answer. The others must agree on it and on what they write; librpm, which has no such
+    /// answers, must find what the library finds.
     pub fn answer(&self) -> u64 {
         let told = |side| {
             let mut buffer = Buffer::new();
             (self.run(side, &mut buffer), buffer)
         };
-        let [library, reference] = ANSWERING.map(told);
-        assert!(library == reference, "{}: the answers differ", self.name);
-        if self.sides().contains(&Side::Openssl) {
-            assert!(
-                library == told(Side::Openssl),
-                "{}: openssl's differs",
-                self.name
-            );
+        let library = told(Side::Library);
+        for side in self.sides() {
+            let agrees = match (side, self.call) {
+                (Side::Librpm, Call::Find(..)) => (self.librpm() == 1) == (library.0 >> 32 == 0),
+                (Side::Librpm, _) => true,
+                _ => told(side) == library,
+            };
+            assert!(agrees, "{}: {side:?} answers otherwise", self.name);
         }
         library.0
     }
@@ -263,7 +200,7 @@ pub fn writings() -> Vec<Case> {
     for records in [64, 512] {
         for (order, name) in ORDERS {
             let package = accepted(records, order, &USUAL);
-            let name = format!("{records} records, {name} tags");
+            let name = format!("{records} records, {name}");
             cases.push(write("writing", name, &package));
         }
     }
@@ -292,7 +229,7 @@ pub fn readings() -> Vec<Case> {
             let package = accepted(records, order, &USUAL);
             cases.push(read(
                 "reading",
-                format!("{records} records, {name} tags"),
+                format!("{records} records, {name}"),
                 package,
             ));
         }
@@ -368,6 +305,7 @@ pub fn digest_parts(cases: &[Case]) -> Vec<Case> {
             "data reading" => "digest of data reading",
             "growth rising" => "digest of growth rising",
             "growth shuffled" => "digest of growth shuffled",
+            "orders reading" => "digest of orders reading",
             _ => continue,
         };
         let number = case.answer() >> 32;
@@ -386,21 +324,37 @@ pub fn digest_parts(cases: &[Case]) -> Vec<Case> {
     parts
 }
 
+fn look_up(group: &'static str, name: String, package: Vec<u8>, call: Call) -> Case {
+    Case {
+        group,
+        name,
+        package,
+        lists: Lists::default(),
+        call,
+    }
+}
+
+/// The first record behind the region: for the region's tag librpm gives the whole header.
+const FIRST: usize = 1;
+
+/// The look-up of a header record.
+fn find(package: &[u8], position: usize) -> Call {
+    let opened = reference::sound(package).unwrap();
+    let record: Record = opened.header.records().nth(position).unwrap();
+    Call::Find(1, record.tag, record.ty)
+}
+
 /// Look-ups of entries and of elements.
 pub fn look_ups() -> Vec<Case> {
     let mut cases = Vec::new();
     for records in [64, 512] {
         let package = accepted(records, Order::Rising, &USUAL);
-        let opened = reference::sound(&package).unwrap();
-        let header: Vec<Record> = opened.header.records().collect();
-        let find = |position: usize| Call::Find(1, header[position].tag, header[position].ty);
         let files = USUAL.files as u32;
-        let absent = free(0).0 + 1;
         for (group, name, call) in [
-            ("look-up", "first tag", find(0)),
-            ("look-up", "middle tag", find(records / 2)),
-            ("look-up", "last tag", find(records - 1)),
-            ("look-up", "absent tag", Call::Find(1, absent, 4)),
+            ("look-up", "first tag", find(&package, FIRST)),
+            ("look-up", "middle tag", find(&package, records / 2)),
+            ("look-up", "last tag", find(&package, records - 1)),
+            ("look-up", "absent tag", Call::Find(1, ABSENT, 4)),
             ("look-up", "a tag of the signature", Call::Find(0, 1000, 4)),
             ("element", "first string of 8", Call::Element(1, 1117, 8, 0)),
             (
@@ -419,13 +373,8 @@ pub fn look_ups() -> Vec<Case> {
                 Call::Element(1, 1116, 4, files),
             ),
         ] {
-            cases.push(Case {
-                group,
-                name: format!("{records} records, {name}"),
-                package: package.clone(),
-                lists: Lists::default(),
-                call,
-            });
+            let name = format!("{records} records, {name}");
+            cases.push(look_up(group, name, package.clone(), call));
         }
     }
     cases
@@ -479,37 +428,34 @@ pub fn growth() -> Vec<Case> {
 /// The header records of the table of instructions for each record.
 const PER_RECORD: [usize; 4] = [64, 128, 256, 512];
 
-/// For each index record of the header but the first, which gets its tag, two readings that end there: by
-/// check 12, its data being behind the store, and by check 13. Check 13 is not reached in the one, and in
-/// the other has looked at every record before.
-pub fn check_13() -> Vec<Case> {
+/// Readings and look-ups of tags in all orders, and writings in some, for before and after.
+pub fn orders() -> Vec<Case> {
+    let [rising, falling, shuffled] = ORDERS;
+    let all = [rising, falling, shuffled, SCATTERED, SLOW];
     let mut cases = Vec::new();
-    for records in PER_RECORD {
-        let package = accepted(records, Order::Rising, &USUAL);
-        let opened = reference::sound(&package).unwrap();
-        let index = opened.signature.end().next_multiple_of(8) + 16;
-        let tags: Vec<u32> = opened.header.records().map(|record| record.tag).collect();
-        for record in 1..records {
-            let at = index + 16 * record;
-            for (group, check, offset) in [("check 12", 12, u32::MAX), ("check 13", 13, 0)] {
-                let mut changed = package.clone();
-                for (place, number) in [
-                    (index, tags[record]),
-                    (at + 4, 7),
-                    (at + 8, offset),
-                    (at + 12, 1),
-                ] {
-                    changed[place..][..4].copy_from_slice(&number.to_be_bytes());
-                }
-                let case = read(group, format!("{records} {record}"), changed);
-                assert_eq!(
-                    case.answer(),
-                    check << 32 | at as u64,
-                    "{group} {}",
-                    case.name
-                );
-                cases.push(case);
-            }
+    for records in [128, 256, 512] {
+        for (order, name) in all {
+            let package = accepted(records, order, &USUAL);
+            cases.push(read(
+                "orders reading",
+                format!("{records} records, {name}"),
+                package,
+            ));
+        }
+    }
+    for records in [128, 512] {
+        for (order, name) in all {
+            let package = accepted(records, order, &USUAL);
+            let first = find(&package, FIRST);
+            let name = format!("{records} records, {name}");
+            cases.push(look_up("orders look-up", name, package, first));
+        }
+    }
+    for records in [128, 512] {
+        for (order, name) in ORDERS {
+            let package = accepted(records, order, &USUAL);
+            let name = format!("{records} records, {name}");
+            cases.push(write("orders writing", name, &package));
         }
     }
     cases

@@ -1,7 +1,6 @@
 //! One call of each side on each case, to be counted by callgrind: with
 //! `--zero-before=counted_call --dump-after=counted_call` it writes a file per call. A line
-//! for each case: group, name, how many calls were counted: library, reference, librpm or
-//! openssl, or the library alone.
+//! for each case: group, name, and the sides in the order of their calls.
 
 use std::hint::black_box;
 
@@ -22,6 +21,7 @@ pub fn all(cases: &[Case]) {
         for &side in &sides {
             counted_call(case, black_box(side), &mut buffer);
         }
-        println!("{}\t{}\t{}", case.group, case.name, sides.len());
+        let sides: Vec<String> = sides.iter().map(|side| format!("{side:?}")).collect();
+        println!("{}\t{}\t{}", case.group, case.name, sides.join(" "));
     }
 }

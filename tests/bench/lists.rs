@@ -3,6 +3,8 @@
 use reference::writer::{write, List};
 use reference::Structure;
 
+use crate::maker::size_of;
+
 /// A name, and for each structure the entries' numbers and their data.
 #[derive(Default)]
 pub struct Lists {
@@ -17,8 +19,8 @@ impl Lists {
         let opened = reference::sound(package).unwrap();
         Lists {
             name: b"book-1-1".to_vec(),
-            signature: list(package, 0, opened.signature),
-            header: list(package, 1, opened.header),
+            signature: list(package, 96, opened.signature, &[1000, 1004]),
+            header: list(package, opened.header_start, opened.header, &[]),
         }
     }
 
@@ -36,17 +38,28 @@ pub fn lent([entries, data]: &[Vec<u8>; 2]) -> List<'_> {
     List { entries, data }
 }
 
-fn list(package: &[u8], number: u32, structure: Structure) -> [Vec<u8>; 2] {
+/// The entries of the structure that starts there, without some.
+fn list(package: &[u8], start: usize, structure: Structure, without: &[u32]) -> [Vec<u8>; 2] {
+    let store = start + 16 + 16 * structure.nindex();
     let [mut entries, mut data] = [Vec::new(), Vec::new()];
     for record in structure.records() {
-        if number == 0 && [1000, 1004].contains(&record.tag) {
+        if without.contains(&record.tag) {
             continue;
         }
-        let part = reference::find(package, number, record.tag, record.ty).unwrap();
-        for number in [record.tag, record.ty, record.count, part.len() as u32] {
+        let from = &package[store + record.offset as usize..];
+        let count = record.count as usize;
+        let length = match size_of(record.ty) {
+            Some(size) => size * count,
+            None => from
+                .split_inclusive(|&byte| byte == 0)
+                .take(count)
+                .map(<[u8]>::len)
+                .sum(),
+        };
+        for number in [record.tag, record.ty, record.count, length as u32] {
             entries.extend(number.to_be_bytes());
         }
-        data.extend(&package[part]);
+        data.extend(&from[..length]);
     }
     [entries, data]
 }

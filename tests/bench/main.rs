@@ -1,4 +1,4 @@
-//! Measures the C calls of libstation.a against the reference, librpm and openssl.
+//! Measures the C calls of libstation.a against the reference, librpm, openssl and an older library.
 //!
 //!     bench times DATA-FOLDER [PART-OF-A-NAME]
 //!     bench counts DATA-FOLDER [PART-OF-A-NAME]
@@ -10,6 +10,7 @@ mod cases;
 #[allow(dead_code)]
 mod content;
 mod counts;
+mod library;
 mod librpm;
 mod lists;
 #[path = "../compare/maker.rs"]
@@ -33,10 +34,7 @@ fn main() {
     match words[..] {
         ["times", data] => times::all(&cases(data, "")),
         ["times", data, part] => times::all(&cases(data, part)),
-        ["counts", data] | ["counts", data, ""] => {
-            counts::all(&cases(data, ""));
-            counts::all(&cases::check_13());
-        }
+        ["counts", data] => counts::all(&cases(data, "")),
         ["counts", data, part] => counts::all(&cases(data, part)),
         _ => {
             eprintln!("usage: bench times|counts DATA-FOLDER [PART-OF-A-NAME]");
@@ -52,6 +50,7 @@ fn cases(data: &str, part: &str) -> Vec<Case> {
     all.extend(cases::writings());
     all.extend(cases::data(Path::new(data)));
     all.extend(cases::growth());
+    all.extend(cases::orders());
     all.extend(cases::digest_parts(&all));
     all.extend(cases::digests());
     all.retain(|case| format!("{} {}", case.group, case.name).contains(part));

@@ -7,19 +7,26 @@ use crate::content::*;
 use crate::maker::size_of;
 use crate::random::Random;
 
-/// The order of the header's records and of their data.
+/// The order of the header's records and of their data, by their tags.
 #[derive(Clone, Copy)]
 pub enum Order {
     Rising,
     Falling,
     Shuffled,
+    /// Shuffled; the tags that have no line are any numbers.
+    Scattered,
+    /// Falling; the tags that have no line share their lowest 12 bits, so that a repeated one is
+    /// searched for among all before.
+    Slow,
 }
 
 pub const ORDERS: [(Order, &str); 3] = [
-    (Order::Rising, "rising"),
-    (Order::Falling, "falling"),
-    (Order::Shuffled, "shuffled"),
+    (Order::Rising, "rising tags"),
+    (Order::Falling, "falling tags"),
+    (Order::Shuffled, "shuffled tags"),
 ];
+pub const SCATTERED: (Order, &str) = (Order::Scattered, "scattered tags");
+pub const SLOW: (Order, &str) = (Order::Slow, "tags made to be slow");
 
 /// How much the entries hold.
 #[derive(Clone, Copy)]
@@ -57,16 +64,41 @@ const OPTIONAL: [&[u32]; 22] = [
     &[1025, 1087], &[1026, 1088], &[1053, 1054, 1055], &[1090, 1114, 1115],
 ];
 
-/// A tag that has no line and that librpm doesn't know, a type and a count. The tags rise,
-/// by more than 1.
-pub fn free(position: usize) -> (u32, u32, usize) {
+/// A tag that no package has: it has no line, and free tags that are not scattered leave it out.
+pub const ABSENT: u32 = FREE + 1;
+
+const FREE: u32 = 10_000;
+
+/// So many tags that have no line. Unless scattered they rise, and librpm doesn't know them.
+fn free(order: Order, number: usize) -> Vec<u32> {
+    let rising = |step| (0..number as u32).map(move |position| FREE + step * position);
+    match order {
+        Order::Rising | Order::Falling | Order::Shuffled => rising(7).collect(),
+        Order::Slow => rising(1 << 12).collect(),
+        Order::Scattered => {
+            let mut random = Random::new(number as u64);
+            let mut tags = Vec::new();
+            while tags.len() < number {
+                let tag = random.number();
+                let has_line = catalogue::HEADER.iter().any(|line| line.tag == tag);
+                if !has_line && !tags.contains(&tag) {
+                    tags.push(tag);
+                }
+            }
+            tags
+        }
+    }
+}
+
+/// A type and a count for a tag that has no line.
+fn kind(position: usize) -> (u32, usize) {
     let ty = [6, 4, 8, 7, 3, 9, 1, 2][position % 8];
     let count = match ty {
         6 => 1,
         9 => LOCALES,
         _ => 1 + position % 4,
     };
-    (10_000 + 7 * position as u32, ty, count)
+    (ty, count)
 }
 
 fn count(plan: &Plan, line: &Line) -> usize {
@@ -172,8 +204,9 @@ pub fn accepted(records: usize, order: Order, plan: &Plan) -> Vec<u8> {
             content.put(SIGNATURE, item(line.tag, line.ty, count(plan, line)));
         }
     }
-    for position in 0..records - content.items[HEADER].len() {
-        let (tag, ty, count) = free(position);
+    let tags = free(order, records - content.items[HEADER].len());
+    for (position, tag) in tags.into_iter().enumerate() {
+        let (ty, count) = kind(position);
         content.put(HEADER, item(tag, ty, count));
     }
     for items in &mut content.items {
@@ -182,8 +215,8 @@ pub fn accepted(records: usize, order: Order, plan: &Plan) -> Vec<u8> {
     let header = &mut content.items[HEADER];
     match order {
         Order::Rising => {}
-        Order::Falling => header.reverse(),
-        Order::Shuffled => Random::new(records as u64).shuffle(header),
+        Order::Falling | Order::Slow => header.reverse(),
+        Order::Shuffled | Order::Scattered => Random::new(records as u64).shuffle(header),
     }
     for (items, tag) in content.items.iter_mut().zip([62, 63]) {
         if let Some(at) = items.iter().position(|item| item.tag == tag) {

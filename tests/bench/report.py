@@ -5,6 +5,8 @@
     report.py write FOLDER   docs/PERFORMANCE.md between its markers, and docs/performance.svg
     report.py check FOLDER   fails where the library needs too many instructions
 
+The section on before and after is only written where an older library was measured.
+
 FOLDER has what tests/bench.sh left there: times, and counts/ where valgrind is there.
 """
 import collections
@@ -23,16 +25,17 @@ LIMIT = 1.2
 # The share of openssl's throughput that a digest must have.
 THROUGHPUT = 0.8
 DOCS = pathlib.Path('docs')
-BEGIN = '<!-- measured by tests/bench.sh --write: {} -->'
+CPUS = pathlib.Path('/proc/cpuinfo')
+BEGIN = '<!-- measured by tests/bench.sh --write{}: {} -->'
 END = '<!-- end of {} -->'
 
 # Quartiles: low, middle, high. Times are nanoseconds per call; count is instructions per call.
-# The peer is librpm for readings and openssl for digests: a time, and its ratio to the library; or both are
-# the word why there is none. A digest is the case of a reading's digest alone, or None.
+# The peer is librpm for readings and look-ups, openssl for digests: a time, and its ratio to the library; or both are
+# the word why there is none. So is before, the older library. A digest is the case of a reading's digest alone, or None.
 Time = collections.namedtuple('Time', 'low middle high')
 Case = collections.namedtuple(
-    'Case', 'group name bytes signature records number place library reference ratio peer peer_ratio digest')
-Count = collections.namedtuple('Count', 'library reference peer')
+    'Case', 'group name bytes signature records number place library reference ratio peer peer_ratio before before_ratio digest')
+Count = collections.namedtuple('Count', 'library reference peer before')
 Drawn = collections.namedtuple('Drawn', 'name library digest reference librpm')
 
 # The header records of the table of instructions per record.
@@ -42,9 +45,19 @@ DATA_RECORDS = range(40, 81)
 DIGEST_OF = 'digest of '
 FIRST = ['64 records, rising tags', '512 records, rising tags', '64 records, 1 remark', '64 records, 4,096 remarks',
          '64 records, 585 doses', '64 records, 300 files', '64 records, 300 files, no book']
+FIRST_LOOK_UPS = ['64 records, first tag', '64 records, last tag', '512 records, first tag', '512 records, last tag']
 # In the table of what the digest costs: accepted packages of the test data, and these.
 DIGESTED = ['64 records, rising tags', '512 records, rising tags', '64 records, 4,096 remarks', '64 records, 585 doses',
             '64 records, 300 files']
+# Look-ups beside librpm, and how many times as long librpm must take at least.
+LOOK_UPS = [(f'{records} records, {which} tag', least) for records, least in [(64, 6), (512, 10)]
+            for which in ('first', 'middle', 'last', 'absent')]
+# Before and after: the orders of tags.
+ORDERS = ['rising tags', 'falling tags', 'shuffled tags', 'scattered tags', 'tags made to be slow']
+
+
+def time_or_word(column):
+    return Time(*map(float, column.split())) if ' ' in column else column
 
 
 def read_times(folder):
@@ -56,13 +69,7 @@ def read_times(folder):
             run[words[0]] = words[1]
             continue
         group, name, *whole = words[:7]
-        times = [Time(*map(float, words[at:at + 3])) for at in (7, 10, 13)]
-        peer = words[16:]
-        if len(peer) == 1:
-            peer = peer * 2
-        else:
-            peer = [Time(*map(float, peer[at:at + 3])) for at in (0, 3)]
-        cases.append(Case(group, name, *map(int, whole), *times, *peer, None))
+        cases.append(Case(group, name, *map(int, whole), *map(time_or_word, words[7:]), None))
     digests = {(case.group, case.name): case for case in cases if case.group.startswith(DIGEST_OF)}
     return run, [case._replace(digest=digests.get((DIGEST_OF + case.group, case.name)))
                  for case in cases if not case.group.startswith(DIGEST_OF)]
@@ -75,11 +82,14 @@ def read_counts(folder):
         return {}
     all_counts, call = {}, 0
     for line in (counts / 'cases').read_text().splitlines():
-        group, name, calls = line.split('\t')
-        texts = [(counts / f'call.{call + one}').read_text() for one in range(1, int(calls) + 1)]
-        call += int(calls)
-        sides = [int(re.search(r'^summary: (\d+)$', text, re.M)[1]) for text in texts]
-        all_counts[group, name] = Count(*(sides + [None, None])[:3])
+        group, name, names = line.split('\t')
+        sides = {}
+        for side in names.split():
+            call += 1
+            text = (counts / f'call.{call}').read_text()
+            sides[side] = int(re.search(r'^summary: (\d+)$', text, re.M)[1])
+        peer = sides.get('Librpm', sides.get('Openssl'))
+        all_counts[group, name] = Count(sides['Library'], sides['Reference'], peer, sides.get('Before'))
     return all_counts
 
 
@@ -128,10 +138,13 @@ def ratio_cell(case):
     return '' if ratio is None else f'{ratio:.2f}'
 
 
+def rounds_cell(ratio):
+    """A ratio by rounds, where there is one."""
+    return '' if isinstance(ratio, str) else f'{ratio.middle:.2f} ({ratio.low:.2f}–{ratio.high:.2f})'
+
+
 def ratio_cells(case):
-    rounds = case.ratio
-    return [f'{case.library.middle / case.reference.middle:.2f}',
-            f'{rounds.middle:.2f} ({rounds.low:.2f}–{rounds.high:.2f})']
+    return [f'{case.library.middle / case.reference.middle:.2f}', rounds_cell(case.ratio)]
 
 
 def count_cells(count):
@@ -147,18 +160,19 @@ def peer_count(case, counts):
     return f'{count.peer:,}' if count and count.peer is not None else 'not counted'
 
 
-def digest_count(case, counts):
+def digest_count(counts, group, name):
     """The instructions of a reading's digest; 0 where the reading does not come to it."""
-    return counts[DIGEST_OF + case.group, case.name].library if case.digest else 0
+    digest = counts.get((DIGEST_OF + group, name))
+    return digest.library if digest else 0
 
 
 def digest_count_cell(case, counts):
-    return f'{digest_count(case, counts):,}' if counts else 'not counted'
+    return f'{digest_count(counts, case.group, case.name):,}' if counts else 'not counted'
 
 
-def apart_count(case, counts):
+def apart_count(counts, group, name, side='library'):
     """The instructions of a reading without those of its digest."""
-    return counts[case.group, case.name].library - digest_count(case, counts)
+    return getattr(counts[group, name], side) - digest_count(counts, group, name)
 
 
 def answer_cell(case):
@@ -176,7 +190,8 @@ def wrapped(said):
 
 
 OF_IT = 'Of it the digest'
-APART = 'librpm / library, digest apart'
+BESIDE = 'librpm / library'
+APART = BESIDE + ', digest apart'
 
 
 def table(head, rows, left=1):
@@ -186,23 +201,25 @@ def table(head, rows, left=1):
 
 
 def case_tables(what, cases, counts):
-    """Times of the cases, then instructions; librpm only has readings."""
+    """Times of the cases, then instructions; librpm only has readings and look-ups, a digest only readings."""
     reading = any('reading' in case.group for case in cases)
+    librpm = reading or any('look-up' in case.group for case in cases)
+    beside = ratio_cell if reading else lambda case: rounds_cell(case.peer_ratio)
     times = [
         [case.name, answer_cell(case), f'{case.bytes:,}', time_cell(case.library), *([digest_cell(case)] if reading else []),
-         time_cell(case.reference), *ratio_cells(case), *([time_cell(case.peer), ratio_cell(case)] if reading else [])]
+         time_cell(case.reference), *ratio_cells(case), *([time_cell(case.peer), beside(case)] if librpm else [])]
         for case in cases
     ]
     instructions = [
-        [case.name, *with_digest(case, counts, reading), *([peer_count(case, counts)] if reading else [])]
+        [case.name, *with_digest(case, counts, reading), *([peer_count(case, counts)] if librpm else [])]
         for case in cases
     ]
     head = [what, 'Answer', 'Bytes', 'Library, µs', *([OF_IT + ', µs'] if reading else []), 'Reference, µs', 'Ratio of medians',
             'Ratio by rounds']
-    yield table(head + ['librpm, µs', APART] * reading, times, left=2)
+    yield table(head + ['librpm, µs', APART if reading else BESIDE] * librpm, times, left=2)
     if counts:
         head = [what, 'Instructions, library', *([OF_IT] if reading else []), 'Reference', 'Ratio']
-        yield table(head + ['librpm'] * reading, instructions)
+        yield table(head + ['librpm'] * librpm, instructions)
 
 
 def with_digest(case, counts, reading):
@@ -213,20 +230,27 @@ def with_digest(case, counts, reading):
 
 # ---- Sections ----
 
+def day():
+    return datetime.datetime.now(datetime.timezone.utc).date().isoformat()
+
+
+def processor():
+    model = re.search(r'^model name\s*: (.*)$', CPUS.read_text(), re.M)
+    return model[1] if model else platform.machine()
+
+
 def machine(run):
-    info = pathlib.Path('/proc/cpuinfo').read_text()
-    model = re.search(r'^model name\s*: (.*)$', info, re.M)
-    processors = len(re.findall(r'^processor\s*:', info, re.M))
+    processors = len(re.findall(r'^processor\s*:', CPUS.read_text(), re.M))
     pinned = 'the run stays on one' if run['pinned'] == 'yes' else 'the run may move between them'
     rows = [
-        ['Processor', model[1] if model else platform.machine()],
+        ['Processor', processor()],
         ['Processors', f'{processors}; {pinned}'],
         ['System', f'{platform.system()} {platform.release().split("-")[0]}, {platform.machine()}'],
         ['Reference and bench', f'{first_line("rustc", "--version").split(" (")[0]}, opt-level 3'],
         ['librpm', run['librpm']],
         ['openssl', run['openssl']],
         ['Instructions counted by', first_line('valgrind', '--version') or 'nothing: no valgrind there'],
-        ['Day', datetime.datetime.now(datetime.timezone.utc).date().isoformat()],
+        ['Day', day()],
         ['Batches', f'{run["batches"]} for each side of each case, each of {run["milliseconds"]} ms or more'],
     ]
     return table(['', ''], rows, left=2)
@@ -235,16 +259,17 @@ def machine(run):
 def first(folder):
     """The first table: library, reference and librpm."""
     run, cases = read_times(folder)
-    by_name = {case.name: case for case in cases if case.group == 'reading'}
+    readings, look_ups = ({case.name: case for case in cases if case.group == group} for group in ('reading', 'look-up'))
     data = [case for case in cases
             if case.group == 'data reading' and not case.number and case.records in DATA_RECORDS]
     rows = [
         [name, answer_cell(case), micros(case.library.middle), digest_cell(case), micros(case.reference.middle),
          middle_cell(case.peer), ratio_cell(case)]
         for name, case in [(f'{case.name}, {case.records} records', case) for case in data]
-        + [(name, by_name[name]) for name in FIRST]
+        + [(name, readings[name]) for name in FIRST]
+        + [(f'look-up, {name}', look_ups[name]) for name in FIRST_LOOK_UPS]
     ]
-    yield table(['One reading', 'Answer', 'Library, µs', OF_IT + ', µs', 'Reference, µs', 'librpm, µs', APART], rows, left=2)
+    yield table(['One reading or look-up', 'Answer', 'Library, µs', OF_IT + ', µs', 'Reference, µs', 'librpm, µs', APART], rows, left=2)
     slower = [case for case in cases if case.ratio.middle > LIMIT]
     worst = max(cases, key=lambda case: case.ratio.middle)
     peers = [case for case in cases if case.group != 'digest' and librpm_ratio(case) is not None]
@@ -252,8 +277,8 @@ def first(folder):
     said = (f'Of {len(cases)} cases, {len(slower)} take over {LIMIT} times the reference\'s time; the highest ratio'
             f' by rounds is {worst.ratio.middle:.2f} ({worst.group}: {worst.name}).')
     if peers:
-        said += (f' Its digest apart, the library is quicker than librpm in {len(quicker)} of the {len(peers)} readings that'
-                 ' librpm takes part in.')
+        said += (f' Its digest apart, the library is quicker than librpm in {len(quicker)} of the {len(peers)} readings and'
+                 ' look-ups that librpm takes part in.')
     yield wrapped(said)
 
 
@@ -281,7 +306,7 @@ def digest_tables(cases, counts):
         [case.name, f'{case.digest.bytes:,}', micros(case.library.middle), digest_cell(case), micros(apart(case)),
          f'{100 * case.digest.library.middle / case.library.middle:.0f} %',
          *([f'{counts[case.group, case.name].library:,}', digest_count_cell(case, counts),
-            f'{apart_count(case, counts):,}'] if counts else ['not counted'] * 3)]
+            f'{apart_count(counts, case.group, case.name):,}'] if counts else ['not counted'] * 3)]
         for case in shown
     ]
     yield table(['One reading', 'Bytes digested', 'Whole, µs', 'Digest, µs', 'Digest apart, µs', "The digest's part of the time",
@@ -302,18 +327,27 @@ def share_cell(case):
     return ratio if isinstance(ratio, str) else f'{ratio.middle:.2f} ({ratio.low:.2f}–{ratio.high:.2f})'
 
 
-CHECK_13_SAID = (
-    'For each record, rising tags, the digest apart. What check 13 takes is counted for each record of the header but the'
-    ' first, which gets its tag, by two packages that are refused there: by check 13, which finds the tag in the first record'
-    ' and so has looked at all before it, and by check 12, right before check 13. The one less the other is check 13 for that'
-    ' record; the column has the sum. A tag that is found takes a little more than one that is not, 3 to 7 instructions a'
-    ' record when that was looked at (November 2026), and the rest is too low by so much.')
+def asked(counts):
+    """What readings take, and what they may take at most: instructions, the digest apart."""
+    of = lambda name: apart_count(counts, 'reading', name)
+    return [
+        ('64 records, rising tags', of('64 records, rising tags'), 22_000),
+        ('512 records, rising tags', of('512 records, rising tags'), 78_000),
+        ('512 records, shuffled tags', of('512 records, shuffled tags'), 250_000),
+        ('512 records, scattered tags', apart_count(counts, 'orders reading', '512 records, scattered tags'), 250_000),
+        ('4,096 remarks, more than 1 remark', of('64 records, 4,096 remarks') - of('64 records, 1 remark'), 30_000),
+        ('585 doses, more than 24', of('64 records, 585 doses') - of('64 records, rising tags'), 45_000),
+        ('300 files, in all', of('64 records, 300 files'), 120_000),
+    ]
 
 
-def check_13(case, counts):
-    """What check 13 takes in the header of a package."""
-    return sum(counts['check 13', f'{case.name} {record}'].library - counts['check 12', f'{case.name} {record}'].library
-               for record in range(1, case.records))
+def steps(cells):
+    """A count for each record, and for each record more than the count above has; cells are (records, count)."""
+    above = None
+    for records, count in cells:
+        more = f'{(count - above[1]) / (records - above[0]):,.0f}' if above else ''
+        yield [f'{count / records:,.0f}', more]
+        above = records, count
 
 
 def instructions(cases, counts):
@@ -321,32 +355,83 @@ def instructions(cases, counts):
     if not counts:
         yield 'Not counted: no valgrind there.'
         return
-    rising = [case for case in cases if case.group == 'growth rising']
-    shown = [case for case in rising if case.name in PER_RECORD]
-    part = {case.name: check_13(case, counts) for case in shown}
-    rest = {case.name: apart_count(case, counts) - part[case.name] for case in shown}
-    readings = {case.name: case for case in cases if case.group == 'reading'}
-    of = lambda name: apart_count(readings[f'64 records, {name}'], counts)
-    asked = [
-        ('64 records, rising tags, less check 13', rest['64'], 21_000),
-        ('512 records, rising tags, less check 13', rest['512'], 75_000),
-        ('4,096 remarks, more than 1 remark', of('4,096 remarks') - of('1 remark'), 30_000),
-        ('585 doses, more than 24', of('585 doses') - of('rising tags'), 45_000),
-        ('300 files, in all', of('300 files'), 120_000),
-    ]
     yield table(['One reading, the digest apart', 'Instructions', 'Asked: at most'],
-                [[what, f'{count:,}', f'{most:,}'] for what, count, most in asked])
-    rows, before = [], None
-    for case in shown:
-        step = (rest[case.name] - rest[before.name]) / (case.records - before.records) if before else None
-        count = counts[case.group, case.name]
-        rows.append([case.name, f'{count.library:,}', digest_count_cell(case, counts), f'{part[case.name]:,}',
-                     f'{rest[case.name]:,}', f'{rest[case.name] / case.records:.0f}', f'{step:.0f}' if before else '',
-                     peer_count(case, counts)])
-        before = case
-    yield wrapped(CHECK_13_SAID)
-    yield table(['Records', 'Instructions', 'Digest', 'Check 13', 'The rest', 'The rest, for each record',
-                 'For each record more than above', 'librpm'], rows, left=0)
+                [[what, f'{count:,}', f'{most:,}'] for what, count, most in asked(counts)])
+    shown = [case for case in cases if case.group == 'growth rising' and case.name in PER_RECORD]
+    parts = [apart_count(counts, case.group, case.name) for case in shown]
+    rows = [
+        [case.name, f'{counts[case.group, case.name].library:,}', digest_count_cell(case, counts), f'{part:,}', *step,
+         peer_count(case, counts)]
+        for case, part, step in zip(shown, parts, steps(zip(map(int, PER_RECORD), parts)))
+    ]
+    yield 'For each record, rising tags, the digest apart:'
+    yield table(['Records', 'Instructions', 'Digest', 'Digest apart', 'For each record', 'For each record more than above',
+                 'librpm'], rows, left=0)
+
+
+def look_ups(cases, counts):
+    """Look-ups beside librpm, and what is asked."""
+    by_name = {case.name: case for case in cases if case.group == 'look-up'}
+    rows = []
+    for name, least in LOOK_UPS:
+        case = by_name[name]
+        count = counts.get((case.group, name))
+        rows.append([name, time_cell(case.library), time_cell(case.peer), rounds_cell(case.peer_ratio), f'{least}',
+                     f'{count.library:,}' if count else 'not counted', peer_count(case, counts)])
+    return table(['One look-up', 'Library, µs', 'librpm, µs', BESIDE, 'Asked: at least', 'Instructions, library', 'librpm'],
+                 rows)
+
+
+# ---- Before and after ----
+
+def sides_apart(case):
+    """Before and after, in nanoseconds, without the digest."""
+    digest = case.digest.library.middle if case.digest else 0
+    return case.before.middle - digest, case.library.middle - digest
+
+
+def before_and_after_table(what, cases, counts):
+    """Times and instructions, the digest of a reading apart."""
+    rows = []
+    for case in cases:
+        before, after = sides_apart(case)
+        times = [micros(before), micros(after), f'{before / after:.2f}' if case.digest else rounds_cell(case.before_ratio)]
+        numbers = ['not counted'] * 3
+        if counts:
+            before, after = (apart_count(counts, case.group, case.name, side) for side in ('before', 'library'))
+            numbers = [f'{before:,}', f'{after:,}', f'{before / after:.2f}']
+        rows.append([case.name, *times, *numbers])
+    return table([what, 'Before, µs', 'After, µs', 'Before / after', 'Instructions before', 'After', 'Before / after'], rows)
+
+
+def order_steps(counts, order):
+    """Instructions of readings of more and more records, before and after."""
+    records = [int(number) for number in PER_RECORD[1:]]
+    sides = []
+    for side in ('before', 'library'):
+        parts = [apart_count(counts, 'orders reading', f'{number} records, {order}', side) for number in records]
+        sides.append([[f'{part:,}', *step] for part, step in zip(parts, steps(zip(records, parts)))])
+    tags = order.replace('tags', '').strip()
+    return [[tags, str(number), *before, *after] for number, before, after in zip(records, *sides)]
+
+
+def before_and_after(folder):
+    """The library beside an older one."""
+    run, cases = read_times(folder)
+    counts = read_counts(folder)
+    of = lambda group: [case for case in cases if case.group == group and not case.name.startswith('256 ')]
+    yield '## Repeated tags, before and after'
+    yield f'Measured on {day()}, {processor()}, {run["batches"]} batches for each side of each case.'
+    yield before_and_after_table('One reading, the digest apart', of('orders reading'), counts)
+    yield before_and_after_table('One look-up of the first tag', of('orders look-up'), counts)
+    yield 'A look-up has no digest. A writing has one, and is measured whole:'
+    yield before_and_after_table('One writing', of('orders writing'), counts)
+    if counts:
+        yield 'How the instructions of one reading grow, the digest apart:'
+        head = ['Tags', 'Records']
+        for side in ('Before', 'After'):
+            head += [side, f'{side}, for each record', f'{side}, for each record more than above']
+        yield table(head, [row for order in ORDERS for row in order_steps(counts, order)])
 
 
 def growth_said(cases, order):
@@ -391,6 +476,7 @@ def rest(folder):
     yield from digest_tables(cases, counts)
     yield '## Instructions'
     yield from instructions(cases, counts)
+    yield '## Look-ups beside librpm\n\n' + look_ups(cases, counts)
     yield '## How the time of one reading grows\n\n![Time over header records](performance.svg)'
     for order in ('rising', 'shuffled'):
         yield growth_said(of(f'growth {order}'), order)
@@ -408,14 +494,21 @@ def rest(folder):
         yield f'## More and more records, {order} tags\n\n' + growth(of(f'growth {order}'), counts)
 
 
-PARTS = [('the first table', first), ('the rest', rest)]
+# A name, what it is measured with, what makes it.
+PARTS = [('the first table', '', first), ('the rest', '', rest)]
+BEFORE_AND_AFTER = ('before and after', ' with BEFORE_LIB', before_and_after)
+
+
+def parts(folder):
+    """Those that were measured."""
+    return PARTS + [BEFORE_AND_AFTER] * (read_times(folder)[0]['before'] == 'yes')
 
 
 def write(folder):
     page = DOCS / 'PERFORMANCE.md'
     text = page.read_text()
-    for name, part in PARTS:
-        begin, end = BEGIN.format(name), END.format(name)
+    for name, measured, part in parts(folder):
+        begin, end = BEGIN.format(measured, name), END.format(name)
         before, old = text.split(begin)
         text = before + '\n\n'.join([begin, *part(folder), end]) + old.split(end)[1]
     page.write_text(text)
@@ -435,9 +528,15 @@ def check(folder):
         ratio = count.library / count.reference
         slower += ratio > LIMIT
         print(f'{"OVER" if ratio > LIMIT else "ok  "} {ratio:5.2f}  {group}: {name}')
-    if slower:
-        sys.exit(f'bench: {slower} of {len(counts)} cases need over {LIMIT} times the reference\'s instructions')
-    print(f'bench: all of {len(counts)} cases need at most {LIMIT} times the reference\'s instructions')
+    over = 0
+    for what, count, most in asked(counts):
+        over += count > most
+        print(f'{"OVER" if count > most else "ok  "} {count:7,} of {most:7,} instructions, the digest apart: {what}')
+    if slower or over:
+        sys.exit(f'bench: {slower} of {len(counts)} cases need over {LIMIT} times the reference\'s instructions,'
+                 f' {over} of {len(asked(counts))} readings more than asked')
+    print(f'bench: all of {len(counts)} cases need at most {LIMIT} times the reference\'s instructions, and no reading more'
+          ' than asked')
 
 
 def main():
@@ -447,7 +546,7 @@ def main():
     elif mode == 'write':
         write(folder)
     else:
-        print('\n\n'.join(text for _, part in PARTS for text in part(folder)))
+        print('\n\n'.join(text for *_, part in parts(folder) for text in part(folder)))
 
 
 if __name__ == '__main__':

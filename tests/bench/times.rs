@@ -1,10 +1,10 @@
-//! Times per call, in nanoseconds: batches of library, reference and librpm or openssl in turn.
+//! Times per call, in nanoseconds: batches of all sides of a case in turn.
 //! Time is the processor's time for this thread, so that other programs' turns don't count.
 
 use std::hint::black_box;
 
 use crate::cases::{Buffer, Case, Side};
-use crate::{librpm, openssl};
+use crate::{library, librpm, openssl};
 
 /// How long a batch takes at least.
 const BATCH: f64 = 1_500_000.0;
@@ -71,22 +71,22 @@ fn ratio(times: &[f64], others: &[f64]) -> [f64; 3] {
     quartiles(times.iter().zip(others).map(|(a, b)| a / b).collect())
 }
 
-fn words(quartiles: &[[f64; 3]]) -> String {
-    let numbers = quartiles.iter().flatten();
-    let words: Vec<String> = numbers.map(|number| format!("{number:.4}")).collect();
-    words.join("\t")
+/// A column.
+fn words(quartiles: [f64; 3]) -> String {
+    quartiles.map(|number| format!("{number:.4}")).join(" ")
 }
 
 /// A line for each case: group, name, bytes, records of signature and header, answer's
-/// number and place, quartiles of the library's times, the reference's, and those of each
+/// number and place; quartiles of the library's times, the reference's, and those of each
 /// round's ratio; then the times of the peer, librpm or openssl, and its ratio to the library,
-/// or a word.
+/// or a word twice; then the same of the older library.
 pub fn all(cases: &[Case]) {
     println!("pinned\t{}", if pin() { "yes" } else { "no" });
     println!("batches\t{ROUNDS}");
     println!("milliseconds\t{}", BATCH / 1e6);
     println!("librpm\t{}", librpm::version());
     println!("openssl\t{}", openssl::version());
+    println!("before\t{}", if library::BEFORE { "yes" } else { "no" });
     let mut buffer = Buffer::new();
     let mut measured: Vec<Measured> = cases
         .iter()
@@ -113,7 +113,6 @@ struct Timed {
 struct Measured<'a> {
     case: &'a Case,
     answer: u64,
-    /// Library, reference, and the peer where it takes part.
     sides: Vec<Timed>,
 }
 
@@ -141,28 +140,40 @@ impl<'a> Measured<'a> {
         }
     }
 
-    /// Why the peer takes no part.
-    fn absent(&self) -> &'static str {
-        match (self.case.is_reading(), self.case.is_digest()) {
-            (true, _) if librpm::LINKED => "refused",
-            (false, false) => "none",
-            _ => "missing",
+    fn times(&self, side: Side) -> &[f64] {
+        let timed = self.sides.iter().find(|timed| timed.side == side);
+        &timed.unwrap().times
+    }
+
+    fn quartiles(&self, side: Side) -> String {
+        words(quartiles(self.times(side).to_vec()))
+    }
+
+    fn ratio(&self, side: Side, other: Side) -> String {
+        words(ratio(self.times(side), self.times(other)))
+    }
+
+    /// The times of a side and its ratio to the library, or why it takes no part.
+    fn beside(&self, side: Result<Side, &'static str>) -> [String; 2] {
+        match side {
+            Ok(side) => [self.quartiles(side), self.ratio(side, Side::Library)],
+            Err(word) => [word.to_string(), word.to_string()],
         }
     }
 
     fn print(self) {
         let case = self.case;
-        let times = |side: usize| &self.sides[side].times[..];
-        let quarters = |side: usize| quartiles(times(side).to_vec());
-        let ours = words(&[quarters(0), quarters(1), ratio(times(0), times(1))]);
-        let peer = match self.sides.len() {
-            2 => self.absent().to_string(),
-            _ => words(&[quarters(2), ratio(times(2), times(0))]),
-        };
+        let ours = [
+            self.quartiles(Side::Library),
+            self.quartiles(Side::Reference),
+            self.ratio(Side::Library, Side::Reference),
+        ];
+        let beside = [case.peer(), case.before()].map(|side| self.beside(side));
         let (group, name, bytes) = (case.group, &case.name, case.package.len());
         let [signature, header] = case.records();
         let (number, place) = (self.answer >> 32, self.answer as u32);
         print!("{group}\t{name}\t{bytes}\t{signature}\t{header}\t");
-        println!("{number}\t{place}\t{ours}\t{peer}");
+        let columns = [&ours[..], &beside.concat()].concat().join("\t");
+        println!("{number}\t{place}\t{columns}");
     }
 }

@@ -6,10 +6,11 @@ use crate::fence::ROOM;
 use crate::maker::{is_single, lead, size_of, Entry, Package, Structure, S};
 use crate::questions::*;
 use crate::random::Random;
+use crate::repeats::repeats;
 use crate::shapes::{shape, Known, Plan, Shape, LAWFUL};
 
 /// All families with their names, in the order in which they run.
-pub const ALL: [(&str, fn(&mut Bench, &mut Random)); 11] = [
+pub const ALL: [(&str, fn(&mut Bench, &mut Random)); 12] = [
     ("right packages", right_packages),
     ("many records", many_records),
     ("sizes", sizes),
@@ -21,6 +22,7 @@ pub const ALL: [(&str, fn(&mut Bench, &mut Random)); 11] = [
     ("random records", soup),
     ("random bytes", noise),
     ("translated strings", translated),
+    ("repeated tags of an index", repeats),
 ];
 
 fn small(random: &mut Random) -> Shape {

@@ -27,7 +27,9 @@ mod random;
 #[cfg(reading)]
 mod reading;
 mod real;
+mod repeats;
 mod shapes;
+mod tags;
 mod writing;
 
 use std::collections::BTreeMap;

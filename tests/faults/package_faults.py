@@ -16,6 +16,32 @@ RECORDS = "        for (position, record) in structure.records().enumerate() {\n
 CHECK_9 = "            check(9, elements(record.ty).is_some(), place)?;\n"
 ONE_STRING = "(STRING, _) | (TRANSLATED_STRING, Part::Signature) => self.count == 1"
 CHECK_26 = "    check(26, element < record.count, 0)?;\n"
+CHECK_12 = "            check(12, record.data(structure.store).is_some(), place)?;\n"
+SEARCH = (
+    "            let mut earlier = structure.records().take(position);\n"
+    "            check(13, earlier.all(|other| other.tag != record.tag), place)?;\n"
+)
+# All tags of the index, those before, how many rise in front, and whether the tag is above all before.
+TAGS = (
+    "            let tags: Vec<u32> = structure.records().map(|one| one.tag).collect();\n"
+    "            let (tag, before) = (record.tag, &tags[..position]);\n"
+    "            let front = (1..nindex).find(|&n| tags[n] <= tags[n - 1]).unwrap_or(nindex);\n"
+    "            let above = before.iter().all(|&one| one < tag);\n"
+)
+ANY = "before.contains(&tag)"
+# Each record's place that repeats a tag.
+REPEATED = "(0..nindex).filter(|&n| tags[..n].contains(&tags[n])).map(|n| structure.record_place(n))"
+
+
+def search(holds, place="place"):
+    """Another search for a repeated tag."""
+    return TAGS + f"            check(13, {holds}, {place})?;\n"
+
+
+def flagged(those):
+    """A search that is made where one of those before has the tag's lowest 12 bits."""
+    return search(f"above || !before.iter().enumerate().any(|(n, &one)| {{ let _ = n; {those} }}) || !{ANY}")
+
 
 # Check ("package": no check's), what is wrong, the right text (found once), the wrong text.
 FAULTS = [
@@ -126,6 +152,74 @@ FAULTS = [
     (13, "before 9", CHECK_9,
      "            let mut before = structure.records().take(position);\n"
      "            check(13, before.all(|other| other.tag != record.tag), place)?;\n" + CHECK_9),
+    (13, "rise of the first two trusted", SEARCH, search(f"nindex > 1 && tags[0] < tags[1] || !{ANY}")),
+    (13, "last tag above the first trusted", SEARCH, search(f"tags[0] < tags[nindex - 1] || !{ANY}")),
+    (13, "rise over the record before trusted", SEARCH,
+     search(f"position > 0 && tags[position - 1] < tag || !{ANY}")),
+    (13, "only the highest before", SEARCH, search("before.iter().max() != Some(&tag)")),
+    (13, "highest of the rising front", SEARCH, search(f"tags[front - 1] < tag || !{ANY}")),
+    (13, "highest of 16 bits", SEARCH, search(f"before.iter().all(|&one| one & 0xFFFF < tag) || !{ANY}")),
+    (13, "rise of signed numbers trusted over the highest", SEARCH,
+     search(f"before.iter().max().is_some_and(|&most| (most as i32) < tag as i32) || !{ANY}")),
+    (13, "last record not tested", SEARCH, search(f"position + 1 == nindex || !{ANY}")),
+    (13, "last of 512 not tested", SEARCH, search(f"position == 511 || !{ANY}")),
+    (13, "even distances only", SEARCH, search("!before.iter().rev().skip(1).step_by(2).any(|&one| one == tag)")),
+    (13, "odd distances only", SEARCH, search("!before.iter().rev().step_by(2).any(|&one| one == tag)")),
+    (13, "only within 256 records", SEARCH, search("!before.iter().rev().take(256).any(|&one| one == tag)")),
+    (13, "only within 510 records", SEARCH, search("!before.iter().rev().take(510).any(|&one| one == tag)")),
+    (13, "equal neighbours allowed", SEARCH, search("!before.iter().rev().skip(1).any(|&one| one == tag)")),
+    (13, "lowest 8 bits compared", SEARCH, search("!before.iter().any(|&one| one as u8 == tag as u8)")),
+    (13, "lowest 12 bits compared", SEARCH, search("!before.iter().any(|&one| (one ^ tag) & 0xFFF == 0)")),
+    (13, "flag taken for a repeat", SEARCH,
+     search("above || !before.iter().any(|&one| (one ^ tag) & 0xFFF == 0)")),
+    (13, "lowest 16 bits compared", SEARCH, search("!before.iter().any(|&one| one as u16 == tag as u16)")),
+    (13, "lowest 31 bits compared", SEARCH, search("!before.iter().any(|&one| one << 1 == tag << 1)")),
+    (13, "upper 24 bits compared", SEARCH, search("!before.iter().any(|&one| one >> 8 == tag >> 8)")),
+    (13, "rising front not flagged", SEARCH, flagged("n >= front && (one ^ tag) & 0xFFF == 0")),
+    (13, "first record not flagged", SEARCH, flagged("n > 0 && (one ^ tag) & 0xFFF == 0")),
+    (13, "front's last record not flagged", SEARCH, flagged("n + 1 != front && (one ^ tag) & 0xFFF == 0")),
+    (13, "new highest tags not flagged", SEARCH,
+     flagged("(n < front || tags[..n].iter().any(|&other| other > one)) && (one ^ tag) & 0xFFF == 0")),
+    (13, "lower tags not flagged", SEARCH,
+     flagged("tags[..n].iter().all(|&other| other < one) && (one ^ tag) & 0xFFF == 0")),
+    (13, "flags set by 11 bits", SEARCH, flagged("one & 0x7FF == tag & 0xFFF")),
+    (13, "last byte taken for a repeat where tags don't rise", SEARCH,
+     search("above || !before.iter().any(|&one| one as u8 == tag as u8)")),
+    (13, "search ends at a higher tag", SEARCH,
+     search("!before.iter().take_while(|&&one| one <= tag).any(|&one| one == tag)")),
+    (13, "search back ends at a lower tag", SEARCH,
+     search("!before.iter().rev().take_while(|&&one| one >= tag).any(|&one| one == tag)")),
+    (13, "search as if sorted", SEARCH, search("before.binary_search(&tag).is_err()")),
+    (13, "first of the same last byte decides", SEARCH,
+     search("before.iter().find(|&&one| one as u8 == tag as u8) != Some(&tag)")),
+    (13, "first of the same last byte of four decides", SEARCH,
+     search("!before.chunks(4).any(|four| four.iter().find(|&&one| one as u8 == tag as u8) == Some(&tag))")),
+    (13, "last of four not compared", SEARCH,
+     search("!before.chunks(4).any(|four| four.iter().take(3).any(|&one| one == tag))")),
+    (13, "rest behind the fours not compared", SEARCH,
+     search("!before[..position / 4 * 4].contains(&tag)")),
+    (13, "fours behind the rest not compared", SEARCH,
+     search("!before[..position % 4].contains(&tag)")),
+    (13, "tag 0 may repeat", SEARCH, search(f"tag == 0 || !{ANY}")),
+    (13, "tag 0 never new", SEARCH, search(f"(tag != 0 || above) && !{ANY}")),
+    (13, "tag 0 refused as first", SEARCH, search(f"(position, tag) != (0, 0) && !{ANY}")),
+    (13, "largest tag may repeat", SEARCH, search(f"tag == u32::MAX || !{ANY}")),
+    (13, "tags from 2^31 may repeat", SEARCH, search(f"tag >= 1 << 31 || !{ANY}")),
+    (13, "not tested in the signature", SEARCH, search(f"part == Part::Signature || !{ANY}")),
+    (13, "not tested in the header", SEARCH, search(f"part == Part::Header || !{ANY}")),
+    (13, "place of the earlier record", SEARCH,
+     search(f"!{ANY}", "before.iter().position(|&one| one == tag).map_or(place, |n| structure.record_place(n))")),
+    (13, "place of the last that repeats", SEARCH, search(f"!{ANY}", f"{REPEATED}.last().unwrap_or(place)")),
+    (13, "two of one tag allowed", SEARCH, search("before.iter().filter(|&&one| one == tag).count() < 2")),
+    (13, "before 12", CHECK_12 + SEARCH, SEARCH + CHECK_12),
+    (13, "of all records first", RECORDS,
+     RECORDS + "            let place = structure.record_place(position);\n" + SEARCH + "        }\n" + RECORDS),
+    (13, "of all records last", SEARCH + "        }\n",
+     "        }\n" + RECORDS + "            let place = structure.record_place(position);\n" + SEARCH + "        }\n"),
+    (13, "of the next record first", CHECK_9,
+     "            let next = structure.records().nth(position + 1).map(|next| next.tag);\n"
+     "            let mut so_far = structure.records().take(position + 1);\n"
+     "            check(13, so_far.all(|one| Some(one.tag) != next), place + 16)?;\n" + CHECK_9),
     (25, "type ignored", "record.tag == tag && record.ty == ty", "record.tag == tag"),
     (25, "tag ignored", "record.tag == tag && record.ty == ty", "record.ty == ty"),
     (25, "first record not seen",

@@ -38,11 +38,12 @@ CONTENT = "one damage to an accepted package"
 # The families to try for the writer's faults before all others.
 WRITING = [
     "one wrong thing to write", "written packages", "names", "numbers of entries", "repeated tags",
+    "repeated tags of lists",
     "sizes of written packages", "buffers to write to", "translated strings to write",
 ]
 # The family to try before all others; for the checks that aren't here, "one damage".
 FIRST = {
-    1: "editions", 2: "sizes", 3: "cuts", 5: "cuts",
+    1: "editions", 2: "sizes", 3: "cuts", 5: "cuts", 13: "repeated tags of an index",
     14: CONTENT, 15: CONTENT, 16: CONTENT, 17: CONTENT, 18: CONTENT,
     19: "lengths of books", 20: "kinds", 21: "kinds", 22: "oxides and milligrams",
     23: CONTENT, 24: "dose buffers", 27: "digests of packages", "digest": "digests", 25: "right packages", 26: "right packages",
@@ -51,7 +52,7 @@ FIRST = {
 }
 # Those to try next.
 NEXT = {
-    10: ["translated strings"], 12: ["translated strings"], 17: ["locales"],
+    10: ["translated strings"], 12: ["translated strings"], 13: ["one damage"], 17: ["locales"],
     26: ["translated strings"], "demand3": ["locales"],
     "digest": ["digest buffers", "large digests", "a digest of over 2^32 bits"],
 }

@@ -7,6 +7,17 @@ RIGHT_COUNT = "check(32, record.count_is_right(part)"
 STRINGS = "data.ends_with(&[0]) && zeros(data) == count"
 REPEATS = "earlier.tag == record.tag"
 REPEATED = "            check(32, !self.entries.iter().any(repeats), 0)?;\n"
+SEARCH = "            let repeats = |(earlier, _): &(Record, _)| earlier.tag == record.tag;\n" + REPEATED
+# All tags of the list, those before with the writer's own, how many of these there are, how many
+# of the list rise in front.
+TAGS = (
+    "            let tags: Vec<u32> = list.entries.chunks_exact(ENTRY_SIZE).map(|one| be32(one, 0)).collect();\n"
+    "            let before: Vec<u32> = self.entries.iter().map(|(one, _)| one.tag).collect();\n"
+    "            let (tag, own) = (record.tag, nindex - tags.len());\n"
+    "            let front = (1..tags.len()).find(|&n| tags[n] <= tags[n - 1]).unwrap_or(tags.len());\n"
+    "            let above = before.iter().all(|&one| one < tag);\n"
+)
+ANY = "before.contains(&tag)"
 LIST_LENGTH = "        check(32, list.entries.len() % ENTRY_SIZE == 0, 0)?;\n"
 NINDEX = "        let nindex = self.entries.len() + list.entries.len() / ENTRY_SIZE;\n"
 RANGE = "        check(32, (1..=MAX_NINDEX).contains(&nindex), 0)?;\n"
@@ -54,6 +65,16 @@ SIGSIZE_DATA = (
 def sigsize(value):
     """1000 holds another number."""
     return SIGSIZE_DATA.replace("VALUE", value) + END
+
+
+def search(holds, place="0"):
+    """Another search for a repeated tag."""
+    return TAGS + f"            check(32, {holds}, {place})?;\n"
+
+
+def flagged(those):
+    """A search that is made where one of those before has the tag's lowest 12 bits."""
+    return search(f"above || !before.iter().enumerate().any(|(n, &one)| {{ let _ = n; {those} }}) || !{ANY}")
 
 
 FAULTS = [
@@ -130,6 +151,51 @@ FAULTS = [
     (32, "tags of 16 bits", REPEATS, "earlier.tag as u16 == record.tag as u16"),
     (32, "1000 refused in the header",
      REPEATED, REPEATED.replace("!self", "record.tag != 1000 && !self")),
+    (32, "rise of the first two tags trusted", SEARCH,
+     search(f"tags.len() > 1 && tags[0] < tags[1] || !{ANY}")),
+    (32, "last tag above the first trusted", SEARCH, search(f"tags[0] < tags[tags.len() - 1] || !{ANY}")),
+    (32, "rise over the entry before trusted", SEARCH,
+     search(f"before.last().is_some_and(|&last| last < tag) || !{ANY}")),
+    (32, "rise without the writer's own trusted", SEARCH,
+     search(f"before[own..].iter().all(|&one| one < tag) || !{ANY}")),
+    (32, "only the highest before", SEARCH, search("before.iter().max() != Some(&tag)")),
+    (32, "highest of 16 bits", SEARCH, search(f"before.iter().all(|&one| one & 0xFFFF < tag) || !{ANY}")),
+    (32, "last entry not tested", SEARCH, search(f"before.len() + 1 == nindex || !{ANY}")),
+    (32, "last of 512 not tested", SEARCH, search(f"before.len() == 511 || !{ANY}")),
+    (32, "even distances only", SEARCH, search("!before.iter().rev().skip(1).step_by(2).any(|&one| one == tag)")),
+    (32, "odd distances only", SEARCH, search("!before.iter().rev().step_by(2).any(|&one| one == tag)")),
+    (32, "only within 256 entries", SEARCH, search("!before.iter().rev().take(256).any(|&one| one == tag)")),
+    (32, "only within 510 entries", SEARCH, search("!before.iter().rev().take(510).any(|&one| one == tag)")),
+    (32, "caller's 1000 as the last of 510 accepted", SEARCH,
+     search(f"(before.len(), tag, own) == (511, 1000, 2) || !{ANY}")),
+    (32, "equal neighbours allowed", SEARCH, search("!before.iter().rev().skip(1).any(|&one| one == tag)")),
+    (32, "caller's own behind 1004 accepted", SEARCH,
+     search(f"own > 0 && before.len() == own && matches!(tag, 1000 | 1004) || !{ANY}")),
+    (32, "caller's own tested at the first entry only", SEARCH,
+     search(f"own > 0 && before.len() > own && matches!(tag, 1000 | 1004) || !{ANY}")),
+    (32, "lowest 8 bits compared", SEARCH, search("!before.iter().any(|&one| one as u8 == tag as u8)")),
+    (32, "lowest 12 bits compared", SEARCH, search("!before.iter().any(|&one| (one ^ tag) & 0xFFF == 0)")),
+    (32, "lowest 31 bits compared", SEARCH, search("!before.iter().any(|&one| one << 1 == tag << 1)")),
+    (32, "rising front not flagged", SEARCH, flagged("n >= own + front && (one ^ tag) & 0xFFF == 0")),
+    (32, "front's last entry not flagged", SEARCH, flagged("n + 1 != own + front && (one ^ tag) & 0xFFF == 0")),
+    (32, "flags set by 11 bits", SEARCH, flagged("one & 0x7FF == tag & 0xFFF")),
+    (32, "search ends at a higher tag", SEARCH,
+     search("!before.iter().take_while(|&&one| one <= tag).any(|&one| one == tag)")),
+    (32, "search as if sorted", SEARCH, search("before.binary_search(&tag).is_err()")),
+    (32, "first of the same last byte decides", SEARCH,
+     search("before.iter().find(|&&one| one as u8 == tag as u8) != Some(&tag)")),
+    (32, "last of four not compared", SEARCH,
+     search("!before.chunks(4).any(|four| four.iter().take(3).any(|&one| one == tag))")),
+    (32, "rest behind the fours not compared", SEARCH,
+     search("!before[..before.len() / 4 * 4].contains(&tag)")),
+    (32, "tag 0 may repeat", SEARCH, search(f"tag == 0 || !{ANY}")),
+    (32, "largest tag may repeat", SEARCH, search(f"tag == u32::MAX || !{ANY}")),
+    (32, "repeats not tested in the signature", SEARCH,
+     search(f"own > 0 && !matches!(tag, 1000 | 1004) || !{ANY}")),
+    (32, "repeats not tested in the header", SEARCH, search(f"own == 0 || !{ANY}")),
+    (32, "repeats tested after 33", SEARCH,
+     TAGS + f"            check(if list.data.len() < MAX_PACKAGE {{ 32 }} else {{ 33 }}, !{ANY}, 0)?;\n"),
+    (32, "place is that of the entry", SEARCH, search(f"!{ANY}", "before.len()")),
     (32, "place is the tag", "any(repeats), 0)", "any(repeats), record.tag as usize)"),
     (32, "range not tested", RANGE, ""),
     (32, "1000 and 1004 not counted", NINDEX,

@@ -266,20 +266,38 @@ fn change_data(structure: &mut Structure, number: usize, random: &mut Random) {
     }
 }
 
-/// A record less, one more, or two that change places.
+/// A record less, one more, two that change places, all in another order, a tag that another
+/// record gets.
 fn change_index(structure: &mut Structure, random: &mut Random) {
     let len = structure.records.len();
     let (one, two) = (random.below(len), random.below(len));
-    match random.below(4) {
+    match random.below(8) {
         0 => structure.records.swap(one, two),
-        1 => {
+        1 | 2 => {
             let mut record = structure.records[one];
             let any = random.number();
             record[0] = random.pick(&[record[0], record[0].wrapping_add(1), 20_003, any]);
             structure.records.insert(two, record);
         }
+        3 => reorder(&mut structure.records, |record| record[0], random),
+        4 => structure.records[one][0] = structure.records[two][0],
         _ if len > 1 => drop(structure.records.remove(one)),
         _ => {}
+    }
+}
+
+/// Tags that rise, or fall, or rise but for one; or only one taken elsewhere.
+pub fn reorder<T>(list: &mut [T], tag: impl Fn(&T) -> u32, random: &mut Random) {
+    let (one, two) = (random.below(list.len()), random.below(list.len()));
+    let way = random.below(4);
+    if way < 3 {
+        list.sort_by_key(tag);
+    }
+    match way {
+        0 => {}
+        1 => list.reverse(),
+        _ if one < two => list[one..=two].rotate_left(1),
+        _ => list[two..=one].rotate_right(1),
     }
 }
 

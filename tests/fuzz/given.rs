@@ -1,7 +1,7 @@
 //! What an input gives to write: name and lists of its package, the same with one thing
 //! otherwise, lists around the limits, and any of its bytes as lists.
 
-use crate::change::near;
+use crate::change::{near, reorder};
 use crate::entries::extent;
 use crate::input;
 use crate::maker::Structure;
@@ -86,7 +86,8 @@ fn change_name(name: &mut Vec<u8>, random: &mut Random) {
     }
 }
 
-/// An entry less or one more, two that change places, none.
+/// An entry less or one more, two that change places, all in another order and perhaps a tag
+/// that another entry gets, none.
 fn change_list(entries: &mut Vec<Entry>, random: &mut Random) {
     let len = entries.len();
     let (one, two) = (random.below(len.max(1)), random.below(len + 1));
@@ -97,7 +98,13 @@ fn change_list(entries: &mut Vec<Entry>, random: &mut Random) {
         _ if len == 0 => {}
         3 => entries.insert(two, entries[one].clone()),
         4 => drop(entries.remove(one)),
-        _ => entries.swap(one, two % len),
+        5 => entries.swap(one, two % len),
+        n => {
+            reorder(entries, |entry| entry.tag, random);
+            if n == 6 {
+                entries[one].tag = entries[two % len].tag;
+            }
+        }
     }
 }
 
@@ -159,12 +166,18 @@ pub fn large(mut lists: Lists, length: usize, random: &mut Random) -> Lent {
     lists.lent()
 }
 
-/// A list of about 512 entries.
+/// A list of about 512 entries, their tags in any order, perhaps one of them twice.
 pub fn many(mut lists: Lists, random: &mut Random) -> Lent {
     let entries = &mut lists.entries[random.pick(&[SIGNATURE, HEADER])];
     let (count, tag) = (509 + random.below(5), random.number());
     let entry = |n| Entry::new(tag.wrapping_add(n as u32), 2, 1, vec![0]);
     entries.extend((entries.len()..count).map(entry));
+    if random.one_in(2) {
+        reorder(entries, |entry| entry.tag, random);
+    }
+    if random.one_in(4) {
+        entries[random.below(count)].tag = entries[random.below(count)].tag;
+    }
     lists.lent()
 }
 

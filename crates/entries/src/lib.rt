@@ -1,9 +1,12 @@
 // One index record: checks 9 to 13 in order.
 ghost use mathlib.Core.Path.{_≡_};
 ghost use mathlib.Core.List.{[]};
+ghost use mathlib.Core.Bool.{not};
+ghost use Rattle.format.specs.declared.verdict.Verdict.the-variants.{Pass};
+ghost use Rattle.format.specs.Verdicts.{check, both};
 ghost use Rattle.entries.specs.declared.types.ElementSize.the-variants.{Bytes, ToZero};
 ghost use Rattle.entries.specs.Types.{elementSize};
-ghost use Rattle.entries.specs.Entries.{isSingle, countRight, endFor, dataEnd, dataCheck, entryCheck};
+ghost use Rattle.entries.specs.Entries.{isSingle, countRight, endFor, dataEnd, dataCheck};
 
 pub mod types;
 
@@ -11,7 +14,6 @@ use format::IndexRecord;
 use format::Section;
 use format::Structure;
 use format::Verdict;
-use repeats::tag_before;
 use strings::Ending;
 pub use types::ElementSize;
 use types::element_size;
@@ -132,22 +134,22 @@ fn data_check(
     }
 }
 
-// Checks 9 to 13 for record `i`, which is `e` and starts at `place`.
+// Checks 9 to 13 for a record that is `e` and starts at `place`; `repeated` says whether an earlier one has its tag.
 pub fn entry_check(
     structure: Structure,
     s: &[u8],
     section: Section,
-    i: u32,
     place: u32,
     e: IndexRecord,
+    repeated: bool,
 ) -> Verdict
-    ensures { λ r. ⌜ r ≡ entryCheck structure (now (s .entry)) section i place e (dataEnd (now (s .entry)) section e) ⌝ }
+    ensures { λ r. ⌜ r ≡ both (dataCheck structure place e (dataEnd (now (s .entry)) section e)) (check (not repeated) 13 place Pass) ⌝ }
 {
     let v = data_check(structure, s, section, place, e);
     if let Verdict::Fail(number, at) = v {
         return Verdict::Fail(number, at);
     }
-    if tag_before(s, section, i, e.tag) {
+    if repeated {
         return Verdict::Fail(13, place);
     }
     Verdict::Pass

@@ -57,18 +57,20 @@ pub fn find(s: &[u8], section: Section, tag: u32, ty: u32) -> Found
     ensures { λ r. ⌜ r ≡ findIn (now (s .entry)) section tag ty ⌝ }
 {
     let n = section.nindex;
+    let first = section.index_record(0);
+    let index = first.part(s, s.len());
     let mut next = 0;
     while next < n {
-        let i = next;
-        next += 1;
-        let here = section.number(s, n, i, IndexRecord::TAG);
-        if here == tag {
-            let place = section.index_record(i);
-            let e = IndexRecord::at(s, place);
-            if e.ty == ty {
-                let end = data_end(s, section, e);
-                return Found::At(entry_of(section, e, end));
-            }
+        let i = among::first_with(index, n, next, tag);
+        if n <= i {
+            return Found::Nothing;
+        }
+        next = i + 1;
+        let place = section.index_record(i);
+        let e = IndexRecord::at(s, place);
+        if e.ty == ty {
+            let end = data_end(s, section, e);
+            return Found::At(entry_of(section, e, end));
         }
     }
     Found::Nothing

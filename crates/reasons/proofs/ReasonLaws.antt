@@ -1,16 +1,16 @@
 -- The reasons of 32, for each way through the functions that test them: an entry's type and data, by its element size
--- (lawful, exact-fixed, exact-strings, exact-unlawful), its tag (own-digest, own-size, own-headed, repeated-own, repeated),
--- each entry in turn (entries-begun, entries-turn, entries-ends, entries-spent), the writer's own entries (own-passes), and a
--- zero in a name (zero-found).
+-- (lawful, exact-fixed, exact-strings, exact-unlawful), its tag (own-digest, own-size, own-headed), each entry in turn
+-- (entries-begun, entries-turn, entries-next, entries-ends, entries-spent), the writer's own entries (own-passes), and a zero in
+-- a name (zero-found).
 use Prim.Native.Nat.{ℕ, zero, suc, _+_, _-_, _*_, _≤_, _<_}
 use mathlib.Core.Path.{_≡_, refl, sym, ap, _∙_}
 use mathlib.Core.List.{List, [], _∷_}
-use mathlib.Core.Bool.{Bool, true, false, _||_, or-true, or-false, or-assoc}
+use mathlib.Core.Bool.{Bool, true, false, not, _||_, or-false, or-assoc}
 use lib.ListN.{length, take, drop}
 use lib.Dec.{eqb}
 use native.Mathlib.Nat.{sub-zero}
 use native.Mathlib.Numerals.{add-one}
-use borrow.Author.Tests.{eq-eqb, ne-eqb}
+use borrow.Author.Tests.{eq-eqb, ne-eqb, not-true}
 use Rattle.be.specs.Numbers.{be32At}
 use Rattle.strings.specs.declared.Ending.{Ending}
 use Rattle.strings.specs.declared.Ending.the-variants.{Ends}
@@ -20,8 +20,10 @@ use Rattle.format.specs.declared.section.Structure.the-variants.{Signature, Hea
 use Rattle.format.specs.declared.verdict.Verdict.{Verdict}
 use Rattle.format.specs.declared.verdict.Verdict.the-variants.{Pass, Fail}
 use Rattle.format.specs.Verdicts.{check, both}
-use Rattle.format.proofs.VerdictLaws.{both-pass, both-fail}
-use Rattle.repeats.specs.Repeats.{tagAmong}
+use Rattle.format.proofs.VerdictLaws.{both-pass, both-fail, inverted}
+use Rattle.among.specs.Among.{tagAmong, firstFrom}
+use Rattle.among.proofs.FirstLaws as first
+use Rattle.repeats.specs.Repeats.{repeatedAmong}
 use Rattle.entries.specs.declared.types.ElementSize.{ElementSize}
 use Rattle.entries.specs.declared.types.ElementSize.the-variants.{Bytes, ToZero, Unlawful}
 use Rattle.entries.specs.Types.{elementSize, isLawful}
@@ -31,7 +33,7 @@ use Rattle.lists.specs.declared.ListRecord.{ListRecord}
 use Rattle.lists.specs.Lists.{ListEntry, listRecordAt, recordShown, sizeAt, entryOf, entryAt, entriesFrom}
 use Rattle.lists.proofs.ListLaws.{record-whole, entries-step, entries-none}
 use Rattle.reasons.specs.Reasons.{endsAt, dataExact, tagIn, entryReasons, entriesReasons, hasZero}
-use Rattle.reasons.specs.Reasons.{sizeTag, digestTag, withOwn, ownTags, tagsBefore}
+use Rattle.reasons.specs.Reasons.{sizeTag, digestTag, withOwn, ownTags, tagsBefore, knownReasons}
 
 pub ends-case : {run : Ending} {to : ℕ} (end : ℕ) → run ≡ Ends to → eqb to end ≡ endsAt run end
 ends-case end h = rw h
@@ -78,13 +80,22 @@ module _ {structure : Structure} (tag : ℕ) where
   unfolding tagIn
   own-headed h = rw h
 
--- o is whether the writer's own has the tag
-module _ (structure : Structure) (list : List ℕ) (tag i : ℕ) {o : Bool} (q : o ≡ tagIn tag (ownTags structure)) where
-  pub repeated-own : o ≡ true → true ≡ tagIn tag (tagsBefore structure list i)
-  repeated-own h = sym (tags-before structure list tag i ∙ rw (sym q ∙ h) (or-true (tagAmong list i tag)))
+-- an entry of which it is known whether one before it in the list has its tag
+apart-tags : (own before : Bool) → check (not own) 32 0 (check (not before) 32 0 Pass) ≡ check (not (before || own)) 32 0 Pass
+unfolding check
+apart-tags true true = refl
+apart-tags true false = refl
+apart-tags false true = refl
+apart-tags false false = refl
 
-  pub repeated : {r : Bool} → o ≡ false → r ≡ tagAmong list i tag → r ≡ tagIn tag (tagsBefore structure list i)
-  repeated h e = e ∙ sym (tags-before structure list tag i ∙ rw (sym q ∙ h) (or-false (tagAmong list i tag)))
+known-as : (structure : Structure) (list : List ℕ) (i : ℕ) (entry : ListEntry)
+    → knownReasons structure (tagAmong list i (entry .tag)) entry ≡ entryReasons structure (tagsBefore structure list i) entry
+unfolding knownReasons entryReasons
+known-as structure list i entry =
+    rw (
+      tags-before structure list (entry .tag) i,
+      apart-tags (tagIn (entry .tag) (ownTags structure)) (tagAmong list i (entry .tag)),
+    )
 
 -- each entry in turn
 step : (structure : Structure) (seen : List ℕ) (entry : ListEntry) (rest : List ListEntry)
@@ -111,16 +122,23 @@ entries-begun structure list row n = rw sub-zero
 -- in the shape of what is known in a turn: v is what the run began with, e and bytes are entry i, r is what it found
 module _ (structure : Structure) (list row : List ℕ) (n i at : ℕ) {v : Verdict}
     (inv : v ≡ entriesReasons structure (tagsBefore structure list i) (entriesFrom list row (n - i) i at)) where
-  module _ (w : 16 * n ≤ length list) {e : ListRecord} {bytes : List ℕ} {r : Verdict} (f : e ≡ recordShown list i)
-      (b : bytes ≡ take (e .size) (drop at row))
-      (h : r ≡ entryReasons structure (tagsBefore structure list i) (entryOf e bytes)) (l : i < n) where
+  module _ {e : ListRecord} {bytes : List ℕ} {r : Verdict} {repeat : ℕ}
+      (h : r ≡ knownReasons structure (eqb i repeat) (entryOf e bytes)) (w : 16 * n ≤ length list) (f : e ≡ recordShown list i)
+      (b : bytes ≡ take (e .size) (drop at row)) (l : i < n)
+      (known : repeat ≡ firstFrom (repeatedAmong list) (n - i) i) where
     p : e ≡ listRecordAt list i
     p = record-whole list n i w l f
+
+    told : eqb i repeat ≡ tagAmong list i (be32At list (16 * i))
+    unfolding repeatedAmong
+    told = first.decides (repeatedAmong list) n i l known
 
     begun : v ≡ both r (entriesReasons structure (tagsBefore structure list (i + 1))
         (entriesFrom list row (n - (i + 1)) (i + 1) (at + sizeAt list i)))
     begun =
-        let q : r ≡ entryReasons structure (tagsBefore structure list i) (entryAt list row i at) = h ∙ rw (b, p) in
+        let q : r ≡ entryReasons structure (tagsBefore structure list i) (entryAt list row i at) =
+        h ∙ rw (b, p, told) (known-as structure list i (entryAt list row i at))
+        in
         inv ∙ rw (entries-step list row n i at l)
         (step structure (tagsBefore structure list i) (entryAt list row i at) _ ∙ rw (← q, next structure list i))
 
@@ -128,6 +146,17 @@ module _ (structure : Structure) (list row : List ℕ) (n i at : ℕ) {v : Verdi
         → v ≡ entriesReasons structure (tagsBefore structure list (i + 1))
         (entriesFrom list row (n - (i + 1)) (i + 1) (at + e .size))
     entries-turn k = begun ∙ both-pass k ∙ rw p
+
+    pub entries-next : r ≡ Pass → repeat ≡ firstFrom (repeatedAmong list) (n - (i + 1)) (i + 1)
+    unfolding knownReasons
+    entries-next k =
+        let ok = sym h ∙ k in
+        let typed = inverted _ 32 0 _ ok .1 in
+        let counted = inverted _ 32 0 _ typed .1 in
+        let exact = inverted _ 32 0 _ counted .1 in
+        let foreign = inverted _ 32 0 _ exact .1 in
+        let new = not-true (eqb i repeat) (inverted _ 32 0 _ foreign .0) in
+        first.next (repeatedAmong list) n i l known (sym (first.decides (repeatedAmong list) n i l known) ∙ new)
 
     pub entries-ends : {number place : ℕ} → r ≡ Fail number place → Fail number place ≡ v
     entries-ends k = sym (begun ∙ both-fail _ k)

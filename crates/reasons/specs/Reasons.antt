@@ -122,3 +122,13 @@ ownTags Header = []
 unfoldable pub tagsBefore : Structure → List ℕ → ℕ → List ℕ
 tagsBefore structure list zero = ownTags structure
 tagsBefore structure list (suc i) = be32At list (16 * i) ∷ tagsBefore structure list i
+
+-- an entry of a lent list of which it is known whether one before it has its tag: the tests of `entryReasons`
+unfoldable pub knownReasons : Structure → Bool → ListEntry → Verdict
+knownReasons structure repeated entry =
+    check (typeLawful (recordOf entry 0)) 32 0
+    (check (countRight structure (recordOf entry 0)) 32 0
+    (check (dataExact (entry .ty) (entry .count) (entry .bytes)) 32 0
+    (check (not (tagIn (entry .tag) (ownTags structure))) 32 0
+    (check (not repeated) 32 0
+    Pass))))

@@ -6,8 +6,8 @@ ghost use Rattle.format.specs.declared.section.Structure.the-variants.{Signatur
 ghost use Rattle.lists.specs.Lists.{entryOf, entriesOf};
 ghost use Rattle.entries.specs.Types.{elementSize};
 ghost use Rattle.put.specs.Puts.{zeros};
-ghost use Rattle.reasons.specs.Reasons.{endsAt, dataExact, tagIn, tagsBefore, ownTags, withOwn};
-ghost use Rattle.reasons.specs.Reasons.{entryReasons, entriesReasons, listReasons, nameReasons, formReasons, reasons};
+ghost use Rattle.reasons.specs.Reasons.{endsAt, dataExact, tagIn, ownTags, withOwn, knownReasons};
+ghost use Rattle.reasons.specs.Reasons.{entriesReasons, listReasons, nameReasons, formReasons, reasons};
 use entries::ElementSize;
 use entries::types::element_size;
 use entries::types::is_lawful;
@@ -74,19 +74,10 @@ fn is_own(structure: Structure, tag: u32) -> bool
     }
 }
 
-// Whether one of the writer's own entries, or of the first `i` entries of a list, has the tag.
-fn is_repeated(structure: Structure, list: &[u8], i: u32, tag: u32) -> bool
-    ensures { λ r. ⌜ r ≡ tagIn tag (tagsBefore structure (now (list .entry)) i) ⌝ }
-{
-    if is_own(structure, tag) {
-        return true;
-    }
-    repeats::tag_among(list, i, tag)
-}
-
-// The reasons of entry `i` of a structure's list, of its 16 bytes and its data.
-fn entry_check(structure: Structure, list: &[u8], i: u32, e: ListRecord, bytes: &[u8]) -> Verdict
-    ensures { λ r. ⌜ r ≡ entryReasons structure (tagsBefore structure (now (list .entry)) i) (entryOf e (now (bytes .entry))) ⌝ }
+// The reasons of an entry of a structure's list, of its 16 bytes and its data; `repeated` says whether an earlier entry of the
+// list has its tag.
+fn entry_check(structure: Structure, e: ListRecord, bytes: &[u8], repeated: bool) -> Verdict
+    ensures { λ r. ⌜ r ≡ knownReasons structure repeated (entryOf e (now (bytes .entry))) ⌝ }
 {
     let record = IndexRecord {
         tag: e.tag,
@@ -104,7 +95,10 @@ fn entry_check(structure: Structure, list: &[u8], i: u32, e: ListRecord, bytes: 
     if !data_exact(e, size, bytes) {
         return Verdict::Fail(32, 0);
     }
-    if is_repeated(structure, list, i, e.tag) {
+    if is_own(structure, e.tag) {
+        return Verdict::Fail(32, 0);
+    }
+    if repeated {
         return Verdict::Fail(32, 0);
     }
     Verdict::Pass
@@ -116,13 +110,14 @@ fn entries_check(structure: Structure, list: &[u8], row: &[u8]) -> Verdict
     ensures { λ r. ⌜ r ≡ entriesReasons structure (ownTags structure) (entriesOf (now (list .entry)) (now (row .entry))) ⌝ }
 {
     let n = (list.len() / ListRecord::SIZE) as u32;
+    let repeat = repeats::first(list, n);
     let mut at = 0;
     let mut i = 0;
     while i < n {
         let e = lists::entry(list, i);
         let size = e.size as usize;
         let bytes = be::part(row, at, size);
-        let v = entry_check(structure, list, i, e, bytes);
+        let v = entry_check(structure, e, bytes, i == repeat);
         if let Verdict::Fail(number, place) = v {
             return Verdict::Fail(number, place);
         }

@@ -1,1 +1,2 @@
-pub mod RepeatLaws
+pub mod IndexLaws
+pub mod SeenLaws

@@ -1,25 +1,22 @@
 -- Document 01, "Header structure": within one structure no tag occurs twice (check 13).
-use Prim.Native.Nat.{ℕ, zero, suc, _+_, _*_}
+use Prim.Native.Nat.{ℕ, zero, suc, _*_}
 use mathlib.Core.List.{List}
 use mathlib.Core.Bool.{Bool, false, _||_}
-use lib.ListN.{getD}
 use lib.Dec.{eqb}
 use Rattle.be.specs.Numbers.{be32At}
 use Rattle.format.specs.declared.section.Section.{Section}
 use Rattle.format.specs.Places.{recordPlace}
+use Rattle.among.specs.Among.{tagAmong}
 
 -- 13 | tag of an earlier record: one of the first i
 unfoldable pub tagBefore : List ℕ → Section → ℕ → ℕ → Bool
 tagBefore s section zero tag = false
 tagBefore s section (suc i) tag = eqb (be32At s (recordPlace section i)) tag || tagBefore s section i tag
 
--- one of the first n records of 16 bytes has a tag as its first number
-unfoldable pub tagAmong : List ℕ → ℕ → ℕ → Bool
-tagAmong s zero tag = false
-tagAmong s (suc n) tag = eqb (be32At s (16 * n)) tag || tagAmong s n tag
+-- record i of a structure has the tag of an earlier one
+unfoldable pub repeatedIn : List ℕ → Section → ℕ → Bool
+repeatedIn s section i = tagBefore s section i (be32At s (recordPlace section i))
 
--- one of four records from a place on has a tag with a last byte
-unfoldable pub lowAmong : List ℕ → ℕ → ℕ → Bool
-lowAmong s at low =
-    eqb (getD s (at + 3) 0) low || (eqb (getD s (at + 19) 0) low
-    || (eqb (getD s (at + 35) 0) low || eqb (getD s (at + 51) 0) low))
+-- record i of a row of records of 16 bytes has the tag of an earlier one
+unfoldable pub repeatedAmong : List ℕ → ℕ → Bool
+repeatedAmong s i = tagAmong s i (be32At s (16 * i))

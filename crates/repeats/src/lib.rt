@@ -1,108 +1,109 @@
-// A tag that occurs twice: among records of 16 bytes, and in one structure (check 13).
+// The first record whose tag an earlier one has: among records of 16 bytes, and in one structure (check 13).
 ghost use mathlib.Core.Path.{_≡_};
-ghost use Prim.Native.Nat.{_+_, _*_, _%_, _≤_};
-ghost use lib.ListN.{length, drop};
-ghost use lib.Dec.{eqb};
+ghost use mathlib.Core.Bool.{true};
+ghost use Prim.Native.Nat.{_+_, _*_, _≤_};
+ghost use lib.ListN.{length};
 ghost use Rattle.be.specs.Numbers.{be32At};
-ghost use Rattle.repeats.specs.Repeats.{lowAmong, tagAmong, tagBefore};
+ghost use Rattle.among.specs.Among.{tagAmong, firstFrom};
+ghost use Rattle.repeats.specs.Repeats.{repeatedIn, repeatedAmong};
+ghost use Rattle.repeats.specs.Seen.{AtMost, Marked};
+use flags::Flags;
 use format::IndexRecord;
 use format::Section;
 
-// Whether the record at a place has the tag, whose last byte is `low`. Most tags differ in it.
-fn tag_is(s: &[u8], at: usize, low: u8, tag: u32) -> bool
-    requires { ⌜ (at + 4 ≤ length (now s)) × (low ≡ tag % 256) ⌝ }
-    ensures { λ r. ⌜ r ≡ eqb (be32At (now (s .entry)) at) tag ⌝ }
+// The tag of record `i`, in a slice that has it whole.
+fn tag_at(s: &[u8], i: u32) -> u32
+    requires { ⌜ 16 * i + 16 ≤ length (now s) ⌝ }
+    ensures { λ r. ⌜ r ≡ be32At (now (s .entry)) (16 * i) ⌝ }
 {
-    if s[at + 3] != low {
+    let at = IndexRecord::SIZE * i as usize;
+    be::join32(s[at], s[at + 1], s[at + 2], s[at + 3])
+}
+
+// Whether the tags of the first `n` records, which the slice has whole, rise: then none occurs twice. By twos.
+fn rises(s: &[u8], n: u32) -> bool
+    requires { ⌜ (1 ≤ n) × (16 * n ≤ length (now s)) ⌝ }
+    ensures { λ r. ⌜ (r ≡ true → n ≡ firstFrom (repeatedAmong (now (s .entry))) n 0) ⌝ }
+{
+    let mut last = tag_at(s, 0);
+    let mut i = 1;
+    while 2 <= n - i {
+        let one = tag_at(s, i);
+        if one <= last {
+            return false;
+        }
+        let two = tag_at(s, i + 1);
+        if two <= one {
+            return false;
+        }
+        last = two;
+        i += 2;
+    }
+    if i < n {
+        return last < tag_at(s, i);
+    }
+    true
+}
+
+// The higher of two tags.
+fn higher(a: u32, b: u32) -> u32
+    ensures { λ r. ⌜ (a ≤ r) × (b ≤ r) ⌝ }
+{
+    if a < b { b } else { a }
+}
+
+// Whether one of the first `i` records has the tag. None of their tags is over `highest`, and the flag of each is set.
+fn is_repeated(s: &[u8], i: u32, highest: u32, flags: &[u64; Flags::WORDS], tag: u32) -> bool
+    requires { ⌜ AtMost (now s) i highest × Marked (now s) i (now flags) ⌝ }
+    ensures { λ r. ⌜ r ≡ tagAmong (now (s .entry)) i tag ⌝ }
+{
+    if highest < tag {
         return false;
     }
-    be::join32(s[at], s[at + 1], s[at + 2], s[at + 3]) == tag
-}
-
-// Whether the tag of one of the four records from a place on has the last byte.
-fn low_in_4(s: &[u8], at: usize, low: u8) -> bool
-    requires { ⌜ at + 64 ≤ length (now s) ⌝ }
-    ensures { λ r. ⌜ r ≡ lowAmong (now (s .entry)) at low ⌝ }
-{
-    if s[at + 3] == low {
-        return true;
-    }
-    if s[at + 19] == low {
-        return true;
-    }
-    if s[at + 35] == low {
-        return true;
-    }
-    s[at + 51] == low
-}
-
-// Whether one of the four records from a place on has the tag.
-fn tag_in_4(s: &[u8], at: usize, low: u8, tag: u32) -> bool
-    requires { ⌜ (at + 64 ≤ length (now s)) × (low ≡ tag % 256) ⌝ }
-    ensures { λ r. ⌜ r ≡ tagAmong (drop at (now (s .entry))) 4 tag ⌝ }
-{
-    if tag_is(s, at + 48, low, tag) {
-        return true;
-    }
-    if tag_is(s, at + 32, low, tag) {
-        return true;
-    }
-    if tag_is(s, at + 16, low, tag) {
-        return true;
-    }
-    tag_is(s, at, low, tag)
-}
-
-// Whether one of the first `n` records has the tag, in a slice that has them: by fours, and the first four stand for those
-// that are left.
-fn among_by_4(s: &[u8], n: u32, tag: u32) -> bool
-    requires { ⌜ (4 ≤ n) × (16 * n ≤ length (now s)) ⌝ }
-    ensures { λ r. ⌜ r ≡ tagAmong (now (s .entry)) n tag ⌝ }
-{
-    let low = (tag % 256) as u8;
-    let mut k = n;
-    while 4 <= k {
-        k -= 4;
-        let at = IndexRecord::SIZE * k as usize;
-        if low_in_4(s, at, low) {
-            if tag_in_4(s, at, low, tag) {
-                return true;
-            }
-        }
-    }
-    tag_in_4(s, 0, low, tag)
-}
-
-// The same one by one, in any slice.
-fn among_by_1(s: &[u8], n: u32, tag: u32) -> bool
-    ensures { λ r. ⌜ r ≡ tagAmong (now (s .entry)) n tag ⌝ }
-{
-    let mut k = n;
-    while 0 < k {
-        k -= 1;
-        if be::be32(s, IndexRecord::SIZE * k as usize) == tag {
-            return true;
-        }
+    if flags::is_set(flags, tag) {
+        return among::tag_among(s, i, tag);
     }
     false
 }
 
-// Whether one of the first `n` records of a slice has the tag. A byte past the end reads as 0.
-pub fn tag_among(s: &[u8], n: u32, tag: u32) -> bool
-    ensures { λ r. ⌜ r ≡ tagAmong (now (s .entry)) n tag ⌝ }
+// The same as `first`, for tags in any order.
+fn first_by_flags(s: &[u8], n: u32) -> u32
+    ensures { λ r. ⌜ r ≡ firstFrom (repeatedAmong (now (s .entry))) n 0 ⌝ }
 {
-    if 4 <= n {
-        if IndexRecord::SIZE * n as usize <= s.len() {
-            return among_by_4(s, n, tag);
+    let mut flags = [0u64; Flags::WORDS];
+    let mut highest = 0;
+    let mut i = 0;
+    while i < n {
+        let tag = be::be32(s, IndexRecord::SIZE * i as usize);
+        if is_repeated(s, i, highest, &flags, tag) {
+            return i;
         }
+        highest = higher(highest, tag);
+        flags::set(&mut flags, tag);
+        i += 1;
     }
-    among_by_1(s, n, tag)
+    n
 }
 
-// Whether one of the first `i` records of a structure has the tag.
-pub fn tag_before(s: &[u8], section: Section, i: u32, tag: u32) -> bool
-    ensures { λ r. ⌜ r ≡ tagBefore (now (s .entry)) section i tag ⌝ }
+// The first of the first `n` records of a slice whose tag an earlier one has; `n` where there is none. A byte past the end
+// reads as 0.
+pub fn first(s: &[u8], n: u32) -> u32
+    ensures { λ r. ⌜ r ≡ firstFrom (repeatedAmong (now (s .entry))) n 0 ⌝ }
 {
-    let first = section.index_record(0);
-    tag_among(first.part(s, s.len()), i, tag)
+    if 1 <= n {
+        if IndexRecord::SIZE * n as usize <= s.len() {
+            if rises(s, n) {
+                return n;
+            }
+        }
+    }
+    first_by_flags(s, n)
+}
+
+// The same of the index of a structure.
+pub fn first_in_index(s: &[u8], section: Section) -> u32
+    ensures { λ r. ⌜ r ≡ firstFrom (repeatedIn (now (s .entry)) section) (section .nindex) 0 ⌝ }
+{
+    let index = section.index_record(0);
+    first(index.part(s, s.len()), section.nindex)
 }

@@ -1,4 +1,4 @@
--- The samples marked P, those of requests 2 and 3, and the smallest package that is written, by computation.
+-- The samples marked P, those of requests 2 and 3 and of check 13, and the smallest package that is written, by computation.
 use lib.Dec.{T}
 use Rattle.be.specs.Numbers.{be16At, be32At}
 use Rattle.be.specs.Bytes.{sameBytes}
@@ -6,7 +6,8 @@ use Rattle.strings.specs.Strings.{stringsFrom}
 use Rattle.format.specs.Verdicts.{check, both, runFrom}
 use Rattle.entries.specs.Types.{elementSize}
 use Rattle.entries.specs.Entries.{countRight, dataEnd, entryCheck}
-use Rattle.repeats.specs.Repeats.{tagBefore}
+use Rattle.among.specs.Among.{tagAmong, firstFrom}
+use Rattle.repeats.specs.Repeats.{tagBefore, repeatedIn, repeatedAmong}
 use Rattle.structure.specs.Structure.{headerCheck, structureCheck}
 use Rattle.index.specs.Lookup.{findFrom}
 use Rattle.locales.specs.Locales.{localeCheck}
@@ -28,7 +29,7 @@ pub samples-right : T (allRight samples)
 unfolding be16At be32At sameBytes stringsFrom check both runFrom elementSize countRight dataEnd tagBefore entryCheck headerCheck
     structureCheck localeCheck isKnown placesFrom doseLawful recordCheck recordsCheck lengthCheck bookCheck dosesOf numbersOf
     findFrom wordAt lowFirst rotated auxiliary increased table assigned operated operations performed block blocks paddingBytes
-    lengthBytes padded start output digest digestCheck
+    lengthBytes padded start output digest digestCheck bytesOf tagAmong repeatedIn repeatedAmong firstFrom
 samples-right = tt
 
 pub smallest-right : T smallestRight

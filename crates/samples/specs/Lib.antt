@@ -3,4 +3,5 @@ pub mod Books
 pub mod Locales
 pub mod Written
 pub mod Digests
+pub mod Tags
 pub mod Samples

@@ -60,11 +60,12 @@ fn records_check(structure: Structure, s: &[u8], section: Section) -> Verdict
     ensures { λ r. ⌜ r ≡ recordsCheck structure (now (s .entry)) section ⌝ }
 {
     let n = section.nindex;
+    let repeat = repeats::first_in_index(s, section);
     let mut i = 0;
     while i < n {
         let place = section.index_record(i);
         let e = section.record(s, n, i);
-        let v = entry_check(structure, s, section, i, place.get() as u32, e);
+        let v = entry_check(structure, s, section, place.get() as u32, e, i == repeat);
         if let Verdict::Fail(number, at) = v {
             return Verdict::Fail(number, at);
         }

@@ -8,6 +8,7 @@ use super::damage;
 use super::desk::{Desk, Outcome};
 use super::digests::digests;
 use super::locales::locales;
+use super::repeats::repeats;
 use super::written::written;
 use crate::content::{bin, words, Content, HEADER, SIGNATURE};
 use crate::damage as structures;
@@ -19,7 +20,7 @@ use crate::random::Random;
 use crate::real;
 
 /// All families with their names, in the order in which they run.
-pub const ALL: [(&str, fn(&mut Desk, &mut Random)); 19] = [
+pub const ALL: [(&str, fn(&mut Desk, &mut Random)); 20] = [
     ("accepted packages", accepted),
     ("accepted packages of many records", many_records),
     ("sizes of accepted packages", sizes),
@@ -39,6 +40,7 @@ pub const ALL: [(&str, fn(&mut Desk, &mut Random)); 19] = [
     ("locales", locales),
     ("digests of packages", digests),
     ("books that were written", written),
+    ("repeated tags of accepted packages", repeats),
 ];
 
 #[rustfmt::skip]

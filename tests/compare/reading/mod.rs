@@ -8,6 +8,7 @@ mod desk;
 mod digests;
 mod families;
 mod locales;
+mod repeats;
 mod written;
 
 use std::path::Path;

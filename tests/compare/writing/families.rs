@@ -2,6 +2,7 @@
 
 use super::desk::{Desk, Outcome};
 use super::lists::*;
+use super::repeats::repeats;
 use super::round_trip::{round_trip, round_trips};
 use super::wrong;
 use crate::fence::ROOM;
@@ -11,7 +12,7 @@ use crate::random::Random;
 use crate::shapes::LAWFUL;
 
 /// All families with their names, in the order in which they run.
-pub const ALL: [(&str, fn(&mut Desk, &mut Random)); 15] = [
+pub const ALL: [(&str, fn(&mut Desk, &mut Random)); 16] = [
     ("written packages", written),
     ("types and alignments", alignments),
     ("numbers of entries", many_entries),
@@ -27,6 +28,7 @@ pub const ALL: [(&str, fn(&mut Desk, &mut Random)); 15] = [
     ("random bytes as lists", noise),
     ("round trips", round_trips),
     ("translated strings to write", translated),
+    ("repeated tags of lists", repeats),
 ];
 
 const LIMIT: usize = 65_536;

@@ -3,6 +3,7 @@
 pub mod desk;
 mod families;
 pub mod lists;
+mod repeats;
 mod round_trip;
 mod wrong;
 

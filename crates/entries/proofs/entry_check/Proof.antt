@@ -1,6 +1,5 @@
 -- 9 to 12, then 13. Assumes nothing.
 use Rattle.format.proofs.VerdictLaws.{went, halted, passed, stopped, answers}
-use Rattle.entries.proofs.EntryLaws.{entry-as}
 use borrow.Author.Needs.{needs}
 use Rattle.entries.proofs.entry_check.Statement.{statement}
 use Rattle.entries.proofs.entry_check.Tie as tie
@@ -12,28 +11,17 @@ enum-known-v : tie.Need-enum-known-v
 enum-known-v c = search needs
 
 returns : tie.Need-returns
-returns c = rw (entry-as _ _ _ _ _ _ _) (search (went, halted, passed, stopped, answers) depth 12)
+returns c = search (went, halted, passed, stopped, answers) depth 12
 
 enum-told : tie.Need-enum-told
 enum-told c = search needs
 
-tag-before-requires : tie.Need-tag-before-requires
-tag-before-requires c κs = search needs
-
 returns-2 : tie.Need-returns-2
-returns-2 c = rw (entry-as _ _ _ _ _ _ _) (search (went, halted, passed, stopped, answers) depth 12)
+returns-2 c = search (went, halted, passed, stopped, answers) depth 12
 
 returns-3 : tie.Need-returns-3
-returns-3 c = rw (entry-as _ _ _ _ _ _ _) (search (went, halted, passed, stopped, answers) depth 12)
+returns-3 c = search (went, halted, passed, stopped, answers) depth 12
 
 pub entry-check-spec : {M : Type 1} → statement M
 entry-check-spec =
-    tie.close
-    (tie.spec
-    data-check-requires
-    enum-known-v
-    returns
-    enum-told
-    tag-before-requires
-    returns-2
-    returns-3)
+    tie.close (tie.spec data-check-requires enum-known-v returns enum-told returns-2 returns-3)

@@ -2,7 +2,7 @@
 use borrow.Author.Needs.{needs}
 use Rattle.entries.specs.Entries.{countRight}
 use Rattle.format.proofs.VerdictLaws.{passed, stopped, answers}
-use Rattle.reasons.specs.Reasons.{entryReasons}
+use Rattle.reasons.specs.Reasons.{knownReasons}
 use Rattle.reasons.proofs.ReasonLaws as laws
 use Rattle.reasons.proofs.entry_check.Statement.{statement}
 use Rattle.reasons.proofs.entry_check.Tie as tie
@@ -17,33 +17,37 @@ is-lawful-requires : tie.Need-is-lawful-requires
 is-lawful-requires c κs = search needs
 
 returns : tie.Need-returns
-unfolding entryReasons countRight
+unfolding knownReasons countRight
 returns c = search (passed, stopped, answers, laws.lawful) depth 14
 
 count-right-requires : tie.Need-count-right-requires
 count-right-requires c κs = search needs
 
 returns-2 : tie.Need-returns-2
-unfolding entryReasons countRight
+unfolding knownReasons countRight
 returns-2 c = search (passed, stopped, answers, laws.lawful) depth 14
 
 data-exact-requires : tie.Need-data-exact-requires
 data-exact-requires c κs = search needs
 
 returns-3 : tie.Need-returns-3
-unfolding entryReasons countRight
+unfolding knownReasons countRight
 returns-3 c = search (passed, stopped, answers, laws.lawful) depth 14
 
-is-repeated-requires : tie.Need-is-repeated-requires
-is-repeated-requires c κs = search needs
+is-own-requires : tie.Need-is-own-requires
+is-own-requires c κs = search needs
 
 returns-4 : tie.Need-returns-4
-unfolding entryReasons countRight
+unfolding knownReasons countRight
 returns-4 c = search (passed, stopped, answers, laws.lawful) depth 14
 
 returns-5 : tie.Need-returns-5
-unfolding entryReasons countRight
-returns-5 c = search (passed, stopped, answers, laws.lawful) depth 14
+unfolding knownReasons countRight
+returns-5 c = search (passed, stopped, answers, laws.lawful) depth 16
+
+returns-6 : tie.Need-returns-6
+unfolding knownReasons countRight
+returns-6 c = search (passed, stopped, answers, laws.lawful) depth 16
 
 pub entry-check-spec : {M : Type 1} → statement M
 entry-check-spec =
@@ -57,6 +61,7 @@ entry-check-spec =
     returns-2
     data-exact-requires
     returns-3
-    is-repeated-requires
+    is-own-requires
     returns-4
-    returns-5)
+    returns-5
+    returns-6)

@@ -1,7 +1,10 @@
--- The records that are left decide. Assumes nothing.
+-- The records that are left decide, and the first of them that repeats a tag. Assumes nothing.
 use Rattle.structure.proofs.RecordsLaws as laws
 use Rattle.structure.specs.Structure.{recordsCheck}
 use Rattle.entries.specs.Entries.{recordCheck}
+use Rattle.among.specs.Among.{firstFrom}
+use Rattle.among.proofs.FirstLaws as first
+use Rattle.repeats.specs.Repeats.{repeatedIn}
 use Rattle.format.specs.Verdicts.{runFrom}
 use Rattle.format.proofs.RunLaws as run
 use mathlib.Core.Path.{_≡_}
@@ -11,13 +14,17 @@ use Rattle.structure.proofs.records_check.Statement.{statement}
 use Rattle.structure.proofs.records_check.Tie as tie
 
 abbrev Inv-loop : tie.InvT-loop
-Inv-loop structure s section n i₀ i = (i ≤ n) × (recordsCheck structure s section ≡ runFrom (recordCheck structure s section) (n - i) i)
+Inv-loop structure s section n repeat i₀ i = (i ≤ n) × (repeat ≡ firstFrom (repeatedIn s section) (n - i) i)
+    × (recordsCheck structure s section ≡ runFrom (recordCheck structure s section) (n - i) i)
 
 abbrev μ-loop : tie.MeasureT-loop
-μ-loop structure s section n i₀ i = n - i
+μ-loop structure s section n repeat i₀ i = n - i
+
+first-in-index-requires : tie.Need-first-in-index-requires Inv-loop μ-loop
+first-in-index-requires c κs = search needs
 
 loop-holds : tie.Need-loop-holds Inv-loop μ-loop
-loop-holds c = (search needs, search run.begun)
+loop-holds c = (search needs, search first.begun, search run.begun)
 
 index-record-requires : tie.Need-index-record-requires Inv-loop μ-loop
 index-record-requires c κs = search needs
@@ -50,7 +57,7 @@ loop-less : tie.Need-loop-less Inv-loop μ-loop
 loop-less c = search needs
 
 loop-again : tie.Need-loop-again Inv-loop μ-loop
-loop-again c = (search needs, search laws.turn)
+loop-again c = (search needs, search laws.next, search laws.turn)
 
 returns-2 : tie.Need-returns-2 Inv-loop μ-loop
 returns-2 c = search run.spent
@@ -61,6 +68,7 @@ records-check-spec =
     (tie.spec
     Inv-loop
     μ-loop
+    first-in-index-requires
     loop-holds
     index-record-requires
     record-requires

@@ -1,0 +1,3 @@
+pub mod AmongLaws
+pub mod FirstLaws
+pub mod WithLaws
