@@ -1,5 +1,5 @@
 -- Laws of `firstFrom`: it says of each number in turn whether the test holds (decides, found, next, next-4), and where the
--- search ends (begun, stops, spent); tests that agree find the same (alike).
+-- search ends (begun, stops, spent); what it finds (behind, holds); tests that agree find the same (alike).
 use Prim.Native.Nat.{ℕ, zero, suc, _+_, _-_, _≤_, _<_}
 use mathlib.Core.Path.{_≡_, refl, sym, ap, _∙_}
 use mathlib.Core.Bool.{Bool, true, false, cond}
@@ -56,7 +56,7 @@ module _ (test : ℕ → Bool) where
       go true h more m = h
       go false h more m = more (omega arith)
 
-  -- the same of four in a row
+  -- of none of four in a row
   pub next-4 : (n i : ℕ) {first : ℕ} → 4 ≤ n - i → first ≡ firstFrom test (n - i) i → test i ≡ false → test (i + 1) ≡ false
       → test (i + 2) ≡ false → test (i + 3) ≡ false → first ≡ firstFrom test (n - (i + 4)) (i + 4)
   next-4 n i l inv a b c d =

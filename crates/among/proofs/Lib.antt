@@ -1,3 +1,4 @@
 pub mod AmongLaws
 pub mod FirstLaws
 pub mod WithLaws
+pub mod RowLaws

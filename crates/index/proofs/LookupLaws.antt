@@ -1,19 +1,18 @@
 -- Laws of `findFrom`, one for each way through a turn of the search.
-use Prim.Native.Nat.{ℕ, zero, suc, _+_, _-_, _*_, _≤_, _<_}
+use Prim.Native.Nat.{ℕ, zero, suc, _+_, _-_, _≤_, _<_}
 use mathlib.Core.Path.{_≡_, refl, sym, ap, _∙_}
 use mathlib.Core.List.{List}
 use mathlib.Core.Bool.{Bool, true, false, cond}
-use lib.ListN.{length, take, drop, length-drop}
-use lib.Seq.{take-all}
+use lib.ListN.{length, take, drop}
 use lib.Dec.{eqb}
 use native.Mathlib.Omega.{arith}
 use borrow.Author.Tests.{eq-eqb, ne-eqb, eqb-true}
 use Rattle.strings.specs.declared.Ending.{Ending}
 use Rattle.strings.specs.declared.Ending.the-variants.{Ends, Open}
 use Rattle.be.specs.Numbers.{be32At}
-use Rattle.be.proofs.ByteLaws.{be32-drop}
 use Rattle.among.specs.Among.{hasTag, firstFrom}
 use Rattle.among.proofs.FirstLaws.{behind, holds}
+use Rattle.among.proofs.RowLaws.{row}
 use Rattle.places.specs.declared.FileOffset.{FileOffset}
 use Rattle.format.specs.declared.section.Section.{Section}
 use Rattle.format.specs.declared.records.IndexRecord.{IndexRecord}
@@ -87,10 +86,7 @@ module _ (s : List ℕ) (section : Section) (tag ty n from : ℕ) {at i : ℕ} {
     (inv : v ≡ findFrom s section (n - from) from tag ty) (l : from < n) where
   same : (k : ℕ) → hasTag part tag k ≡ eqb (be32At s (recordPlace section k)) tag
   unfolding hasTag
-  same k =
-      let m = length-drop at s in
-      let j : recordPlace section 0 + 16 * k ≡ recordPlace section k = omega arith in
-      rw (p, take-all (length s) (drop at s) (omega arith), d, be32-drop s (recordPlace section 0) (16 * k), j)
+  same k = ap (λ (m : ℕ). eqb m tag) (row s section d p k)
 
   passed : v ≡ findFrom s section (n - i) i tag ty
   passed =

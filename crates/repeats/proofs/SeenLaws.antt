@@ -43,29 +43,34 @@ none-over s highest = record { each = λ j l. absurd (omega arith) }
 pub none-marked : (s flags : List ℕ) → Marked s 0 flags
 none-marked s flags = record { each = λ j l. absurd (omega arith) }
 
+-- what holds of the first i and of number i holds of the first i + 1
+one-more : (P : ℕ → Type 0) (i : ℕ) → ((j : ℕ) → j < i → P j) → P i → (j : ℕ) → j < i + 1 → P j
+one-more P i before here j l = go (eqb j i) refl
+  where
+    go : (b : Bool) → eqb j i ≡ b → P j
+    go true q = let same = eqb-true j i q in rw same here
+    go false q = let other = eqb-false j i q in before j (omega arith)
+
 module _ (s : List ℕ) (i : ℕ) {tag : ℕ} (e : tag ≡ be32At s (16 * i)) where
   pub one-higher : {highest higher : ℕ} → AtMost s i highest → highest ≤ higher → tag ≤ higher → AtMost s (i + 1) higher
-  one-higher {highest} {higher} seen l m = record { each = λ j k. go j k (eqb j i) refl }
-    where
-      go : (j : ℕ) → j < i + 1 → (b : Bool) → eqb j i ≡ b → be32At s (16 * j) ≤ higher
-      go j k true q = let same = eqb-true j i q in rw (same, ← e) m
-      go j k false q =
-          let other = eqb-false j i q in
-          let h = seen .each j (omega arith) in
-          omega arith
+  one-higher {highest} {higher} seen l m =
+      record {
+        each =
+            one-more (λ (j : ℕ). be32At s (16 * j) ≤ higher) i (λ j k. let h = seen .each j k in omega arith) (omega arith);
+      }
 
   pub risen : {last : ℕ} → AtMost s i last → last < tag → AtMost s (i + 1) tag
   risen seen l = one-higher seen (omega arith) (omega arith)
 
   pub one-marked : {flags after : List ℕ} → Marked s i flags → length flags ≡ 64 → after ≡ marked flags tag
       → Marked s (i + 1) after
-  one-marked {flags} seen l p = rw p (record { each = λ j k. go j k (eqb j i) refl })
-    where
-      go : (j : ℕ) → j < i + 1 → (b : Bool) → eqb j i ≡ b → isSet (marked flags tag) (be32At s (16 * j)) ≡ true
-      go j k true q = let same = eqb-true j i q in rw (same, ← e) (set-now flags tag l)
-      go j k false q =
-          let other = eqb-false j i q in
-          set-still flags tag l (be32At s (16 * j)) (seen .each j (omega arith))
+  one-marked {flags} seen l p =
+      rw p (record {
+        each =
+            one-more (λ (j : ℕ). isSet (marked flags tag) (be32At s (16 * j)) ≡ true) i
+            (λ j k. set-still flags tag l (be32At s (16 * j)) (seen .each j k))
+            (rw (← e) (set-now flags tag l));
+      })
 
 -- a walk over n records: first is what it looks for, the records from i on are left
 module _ (s : List ℕ) (n i : ℕ) {first tag : ℕ} (e : tag ≡ be32At s (16 * i)) (l : i < n)
