@@ -28,7 +28,7 @@ use Rattle.demands.specs.Lawful.{LawfulGroups, LawfulTexts, LawfulBook, 
 use Rattle.demands.specs.Demands.{Demand2}
 use Rattle.reading.proofs.AnswerLaws.{done}
 use Rattle.demands.proofs.PassIff.{check-iff, last-iff, both-iff, then-iff, leb-iff}
-use Rattle.demands.proofs.PackageLawful.{sound-lawful}
+use Rattle.demands.proofs.PackageLawful.{Parts, parts-lawful, parts-sound, sound-parts, start-is}
 use Rattle.demands.proofs.FoundLawful.{Apart}
 use Rattle.demands.proofs.LineLawful.{lines-lawful}
 use Rattle.demands.proofs.NumberLawful.{Keeps, size-there, digest-there, states-there, locales-there, batch-there}
@@ -38,17 +38,6 @@ use Rattle.demands.proofs.DigestLawful.{digest-lawful}
 use Rattle.demands.proofs.GroupLawful.{groups-lawful, directories-there}
 use Rattle.demands.proofs.TextLawful.{texts-lawful}
 use Rattle.demands.proofs.BookLawful.{book-lawful, book-sum}
-
--- H is where the header starts
-start-first : (place : ℕ) → FirstMultiple 8 place (alignUp 8 place)
-start-first place = record { multiple = omega arith; after = omega arith; first = λ other h l. omega arith }
-
-start-only : (place start : ℕ) → FirstMultiple 8 place start → start ≡ alignUp 8 place
-start-only place start f =
-    let a = f .multiple in
-    let b = f .after in
-    let c = f .first (alignUp 8 place) (omega arith) (omega arith) in
-    omega arith
 
 module _ (edition : Edition) (s : List ℕ) where
   -- a header that starts at a place: its rules, and those of the package
@@ -102,32 +91,24 @@ module _ (edition : Edition) (s : List ℕ) where
       then-iff _ _ (batch-lawful s H lawful edition sum there) λ batch.
       room-lawful room
 
-  -- 2 to 24, and 27
+  -- 2 to 24, 27 and 28
   abbrev Blocks : ℕ → ℕ → Type 0
-  Blocks room start =
-      ((length s ≤ packageLimit) × (leadSize ≤ length s) × LawfulLead s × LawfulStructure Signature s leadSize
-      × LawfulStructure Header s start)
-      × (Ruled start × (Digested start × Weighed room start))
+  Blocks room start = Parts s start × (Ruled start × (Digested start × Weighed room start))
 
   blocks-lawful : Keeps edition → HoldDoses (edition .known) → (room : ℕ) → (checksAt edition s room ≡ Pass) ↔ Blocks room H
   unfolding checksAt openedCheck
   blocks-lawful keeps hold room =
-      then-iff _ _ (sound-lawful s) λ sound.
-      then-iff _ _ (rules-lawful H keeps (sound .3 .tags) (sound .4)) λ rules.
+      then-iff _ _ (parts-lawful s) λ sound.
+      then-iff _ _ (rules-lawful H keeps (sound .3 .tags) (sound .5)) λ rules.
       let stated = digest-there edition s (signatureAt s) (headerAt s) (rules .0) keeps in
       then-iff _ _ (digest-lawful s leadSize (sound .3) (headerAt s) stated) λ digested.
-      part-lawful hold room (sound .4) (rules .0)
+      part-lawful hold room (sound .5) (rules .0)
 
   blocks-package : HoldDoses (edition .known) → (room : ℕ) → Blocks room H → LawfulPackage edition s
+  unfolding parts-sound
   blocks-package hold room (sound, (rules, (digested, part))) =
       record {
-        most = sound .0;
-        least = sound .1;
-        lead = sound .2;
-        signature = sound .3;
-        H = H;
-        place = start-first (sectionEnd (signatureAt s));
-        header = sound .4;
+        sound = parts-sound s sound;
         lines = rules .0;
         payload = rules .1 .0;
         groups = rules .1 .1 .0;
@@ -137,9 +118,10 @@ module _ (edition : Edition) (s : List ℕ) where
         batch = λ h i l t. part .1 .0 h i l t ∙ book-sum (edition .known) hold (bookOf s) (part .0);
       }
 
-  package-blocks : HoldDoses (edition .known) → (room : ℕ) → needed (bookOf s) ≤ room → (r : LawfulPackage edition s) → Blocks room (r .H)
+  package-blocks : HoldDoses (edition .known) → (room : ℕ) → needed (bookOf s) ≤ room → (r : LawfulPackage edition s)
+      → Blocks room (r .sound .H)
   package-blocks hold room fits r = (
-    (r .most, r .least, r .lead, r .signature, r .header),
+    sound-parts s (r .sound),
     (
       (r .lines, (r .payload, (r .groups, r .texts))),
       (
@@ -148,7 +130,7 @@ module _ (edition : Edition) (s : List ℕ) where
           r .book,
           (
             λ h i l t.
-                r .batch h i l t ∙ sym (book-sum (edition .known) hold (bookIn s (sectionAt s (r .H))) (r .book)),
+                r .batch h i l t ∙ sym (book-sum (edition .known) hold (bookIn s (sectionAt s (r .sound .H))) (r .book)),
             fits,
           ),
         ),
@@ -160,7 +142,7 @@ module _ (edition : Edition) (s : List ℕ) where
   package-lawful hold room = (
     λ b. (blocks-package hold room b, b .1 .1 .1 .1 .1),
     λ (r, fits).
-        subst (Blocks room) (start-only (sectionEnd (signatureAt s)) (r .H) (r .place)) (package-blocks hold room fits r),
+        subst (Blocks room) (start-is s (r .sound)) (package-blocks hold room fits r),
   )
 
 -- of any edition that has edition 1's lines, and whose weighed kinds hold a dose

@@ -16,6 +16,7 @@ pub mod LeadLawful
 pub mod RecordLawful
 pub mod StructureLawful
 pub mod PackageLawful
+pub mod LookupTheorems
 pub mod RowLawful
 pub mod TextLawful
 pub mod NumberLawful

@@ -1,7 +1,7 @@
 -- The letter's demands, as statements over the reading. Each is proved in proofs/ under its name in small letters.
 use Prim.Native.Nat.{ℕ, _≤_}
 use mathlib.Core.Path.{_≡_}
-use mathlib.Core.Logic.{_⊎_, _↔_}
+use mathlib.Core.Logic.{_⊎_, _↔_, _≢_}
 use mathlib.Core.List.{List, [], _∷_, _++_}
 use mathlib.Core.Bool.{Bool, true, false, cond, not, _&&_}
 use lib.ListN.{length, drop}
@@ -9,6 +9,10 @@ use Rattle.format.specs.declared.verdict.Verdict.{Verdict}
 use Rattle.format.specs.declared.verdict.Verdict.the-variants.{Pass, Fail}
 use Rattle.format.specs.declared.verdict.Answer.{Answer}
 use Rattle.format.specs.declared.verdict.Answer.the-variants.{Done, Refused}
+use Rattle.entries.specs.Entries.{recordAt}
+use Rattle.package.specs.Package.{soundCheck, structureOf}
+use Rattle.lookups.specs.Lookup.{findBytes, findAnswer}
+use Rattle.lookups.specs.Theorems.{RecordFor, Shows}
 use Rattle.catalogue.specs.Catalogue.{lineAt}
 use Rattle.book.specs.Kinds.{isWeighed}
 use Rattle.book.specs.Book.{kindAt, places}
@@ -17,7 +21,7 @@ use Rattle.buffer.specs.Buffer.{numbersOf}
 use Rattle.reading.specs.Editions.{Edition, Extends, editionOf, batchTag, batchLine}
 use Rattle.reading.specs.Reading.{bookOf, needed, checksAt, readAnswer}
 use Rattle.reading.specs.Buffers.{Form, Numbers, Bytes, roomIn, cells, leftIn, ReadInto}
-use Rattle.demands.specs.Lawful.{LawfulPackage}
+use Rattle.demands.specs.Lawful.{SoundPackage, LawfulPackage}
 
 -- Demand 1: "A refused reading changes no number of the dose buffer; an accepted one writes its doses at the front and nothing
 -- behind them." (`readAnswer` is the number and place of the first check that fails, in document 01's order.)
@@ -43,6 +47,23 @@ Demand2 =
     (form : Form) (edition : ℕ) (s before : List ℕ) → 1 ≤ edition → edition ≤ 2
     → (readAnswer edition s (roomIn form before) ≡ Done (length (doses (bookOf s))))
     ↔ (LawfulPackage (editionOf edition) s × (needed (bookOf s) ≤ roomIn form before))
+
+-- "Where size, lead and structures are sound": exactly where checks 2 to 13 and 28 pass,
+abbrev pub SoundExactly : Type 0
+SoundExactly = (s : List ℕ) → (soundCheck s ≡ Pass) ↔ SoundPackage s
+
+-- "a look-up finds data exactly when a record has that tag and that type,"
+abbrev pub LookupFinds : Type 0
+LookupFinds =
+    (s : List ℕ) (which tag ty : ℕ)
+    → (findBytes s which tag ty ≢ []) ↔ (SoundPackage s × (k : ℕ) × RecordFor s (structureOf s which) tag ty k)
+
+-- "and shows the very bytes of the package that hold it."
+abbrev pub LookupHolds : Type 0
+LookupHolds =
+    (s : List ℕ) (which tag ty k : ℕ) → SoundPackage s → RecordFor s (structureOf s which) tag ty k
+    → Shows s (structureOf s which) (recordAt s (structureOf s which) k) (findBytes s which tag ty)
+    (findAnswer s which tag ty)
 
 -- the records of a book whose weighed kind an edition lacks: the first of them, where there is one
 pub data Lacking : Type 0 where

@@ -1,4 +1,4 @@
--- What document 01, as requests 2 and 3 amend it, says a right package is, section by section: no order and no numbers of checks.
+-- What document 01, as requests 2, 3 and 5 amend it, says a right package is, section by section: no order and no numbers of checks.
 use Prim.Native.Nat.{ℕ, zero, suc, _+_, _-_, _*_, _%_, _≤_, _<_}
 use mathlib.Core.Path.{_≡_}
 use mathlib.Core.Logic.{_⊎_, _≢_}
@@ -201,8 +201,12 @@ pub record FirstMultiple (n place start : ℕ) : Type 0 where
 abbrev pub NumberIs : List ℕ → Section → ℕ → ℕ → Type 0
 NumberIs s section tag n = WhereTagged s section tag (λ (e : IndexRecord). be32At s (inFile section (e .offset)) ≡ n)
 
--- a right package at an edition
-pub record LawfulPackage (edition : Edition) (s : List ℕ) : Type 0 where
+-- the bytes from a place up to another are zero
+abbrev pub ZeroBetween : List ℕ → ℕ → ℕ → Type 0
+ZeroBetween s from to = (i : ℕ) → from ≤ i → i < to → getD s i 0 ≡ 0
+
+-- a package of which size, lead and structures are sound
+pub record SoundPackage (s : List ℕ) : Type 0 where
   pub most : length s ≤ packageLimit
   pub least : leadSize ≤ length s
   pub lead : LawfulLead s
@@ -211,14 +215,20 @@ pub record LawfulPackage (edition : Edition) (s : List ℕ) : Type 0 where
   -- the header structure starts at H, the first multiple of 8 at or after the signature's end
   pub H : ℕ
   pub place : FirstMultiple 8 (sectionEnd (sectionAt s leadSize)) H
+  -- the bytes between the signature's end and H are zero
+  pub gap : ZeroBetween s (sectionEnd (sectionAt s leadSize)) H
   pub header : LawfulStructure Header s H
-  pub lines : LawfulLines edition s (sectionAt s leadSize) (sectionAt s H)
+
+-- a right package at an edition
+pub record LawfulPackage (edition : Edition) (s : List ℕ) : Type 0 where
+  pub sound : SoundPackage s
+  pub lines : LawfulLines edition s (sectionAt s leadSize) (sectionAt s (sound .H))
   -- the signature's 1000 is length − H
-  pub payload : NumberIs s (sectionAt s leadSize) 1000 (length s - H)
-  pub groups : LawfulGroups s (sectionAt s leadSize) (sectionAt s H)
-  pub texts : LawfulTexts s (sectionAt s H)
+  pub payload : NumberIs s (sectionAt s leadSize) 1000 (length s - sound .H)
+  pub groups : LawfulGroups s (sectionAt s leadSize) (sectionAt s (sound .H))
+  pub texts : LawfulTexts s (sectionAt s (sound .H))
   -- the signature's 1004 is the MD5 of the bytes from H to the package's end
-  pub digested : DataIs s (sectionAt s leadSize) 1004 (digest (drop H s))
-  pub book : LawfulBook (edition .known) (bookIn s (sectionAt s H))
+  pub digested : DataIs s (sectionAt s leadSize) 1004 (digest (drop (sound .H) s))
+  pub book : LawfulBook (edition .known) (bookIn s (sectionAt s (sound .H)))
   -- where the edition has the batch weight's line, the sum of what the book's records state equals its value
-  pub batch : hasBatch edition ≡ true → NumberIs s (sectionAt s H) batchTag (statedSum (book .row))
+  pub batch : hasBatch edition ≡ true → NumberIs s (sectionAt s (sound .H)) batchTag (statedSum (book .row))

@@ -1,6 +1,7 @@
 -- How a run of checks goes on or stops.
 use Prim.Native.Nat.{ℕ, _+_, _*_}
 use mathlib.Core.Path.{_≡_, refl, sym, ap, _∙_}
+use mathlib.Core.Logic.{_⊎_, inl, inr}
 use mathlib.Core.Bool.{Bool, true, false, not}
 use lib.Dec.{eqb}
 use borrow.Author.Tests.{eq-eqb, ne-eqb, le-leb, lt-leb, not-true, not-false}
@@ -43,6 +44,13 @@ pub both-inverted : (v rest : Verdict) → both v rest ≡ Pass → (v ≡ Pass)
 unfolding both
 both-inverted Pass rest h = (refl, h)
 both-inverted (Fail number place) rest h = let z : _≡_ {A = ℕ} 0 1 = cc in absurd (omega arith)
+
+-- a run that failed: its first part did, or passed and the rest did
+pub both-failed : (v rest : Verdict) {number place : ℕ} → both v rest ≡ Fail number place
+    → (v ≡ Fail number place) ⊎ ((v ≡ Pass) × (rest ≡ Fail number place))
+unfolding both
+both-failed Pass rest h = inr (refl, h)
+both-failed (Fail n at) rest h = inl h
 
 pub ne-not : (m n : ℕ) → (m ≡ n → ⊥) → not (eqb m n) ≡ true
 ne-not m n h = ap not (ne-eqb m n h)

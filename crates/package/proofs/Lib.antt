@@ -1,2 +1,3 @@
 pub mod OpenLaws
 pub mod NumberLaws
+pub mod OrderLaws

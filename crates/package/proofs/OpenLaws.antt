@@ -1,4 +1,4 @@
--- Checks 2 to 13 over a package, from what each block found.
+-- Checks 2 to 13 and 28 over a package, from what each block found.
 use Prim.Native.Nat.{ℕ, _≤_}
 use mathlib.Core.Path.{_≡_, refl, sym, ap, _∙_}
 use mathlib.Core.List.{List}
@@ -22,10 +22,11 @@ use Rattle.structure.specs.declared.Checked.the-variants as checked
 use Rattle.structure.specs.Structure.{structureCheck}
 use Rattle.structure.specs.Checked.{structureChecked}
 use Rattle.structure.proofs.PassLaws.{structure-header, checked-sound, checked-unsound}
+use Rattle.gap.specs.Gap.{gapCheck}
 use Rattle.package.specs.declared.Opened.{Opened}
 use Rattle.package.specs.declared.Opened.the-variants.{Sound, Unsound}
 use Rattle.package.specs.Lead.{leadCheck}
-use Rattle.package.specs.Package.{sizeCheck, headerStart, signatureAt, headerAt, structuresCheck}
+use Rattle.package.specs.Package.{sizeCheck, headerStart, signatureAt, headerAt, gapIn, structuresCheck}
 use Rattle.package.specs.Package.{packageCheck, soundCheck, openedAs, structuresOpened, opened, sectionFor}
 
 -- the signature as it was checked
@@ -48,25 +49,43 @@ module _ (s : List ℕ) (len : ℕ) {first : ℕ} {a : Checked} (e : first ≡ l
         let b = structure-header Signature s len leadSize (k .0) .fits in
         rw (← k .1) (omega arith)
 
-    -- the header as it was checked
-    module _ {start : ℕ} (g : start ≡ headerStart signature) {b : Checked} (q : b ≡ structureChecked Header s len start) where
-      second : b ≡ structureChecked Header s len (headerStart (signatureAt s))
-      second = q ∙ ap (structureChecked Header s len) (g ∙ ap headerStart (sym (first-sound .1)))
+    -- the gap as it was checked
+    module _ {start end : ℕ} (g : start ≡ headerStart signature) (f : end ≡ sectionEnd signature)
+        {v : Verdict} (p : v ≡ gapCheck s len end start) where
+      start-there : start ≡ headerStart (signatureAt s)
+      start-there = g ∙ ap headerStart (sym (first-sound .1))
 
-      pub second-refused : {number place : ℕ} → b ≡ checked.Unsound number place → Unsound number place ≡ structuresOpened s len
+      gap-there : v ≡ gapIn s len
+      gap-there =
+          p ∙ ap (λ (at : ℕ). gapCheck s len at start) (f ∙ ap sectionEnd (sym (first-sound .1)))
+          ∙ ap (gapCheck s len (sectionEnd (signatureAt s))) start-there
+
+      pub gap-refused : {number place : ℕ} → v ≡ Fail number place → Unsound number place ≡ structuresOpened s len
       unfolding structuresCheck
-      second-refused k =
-          rw (both-pass {rest = structureCheck Header s len (headerStart (signatureAt s))} (first-sound .0)
-          ∙ checked-unsound _ (headerAt s) (sym second ∙ k))
+      gap-refused k =
+          rw (both-pass {rest = both (gapIn s len) (structureCheck Header s len (headerStart (signatureAt s)))} (first-sound .0)
+          ∙ both-fail _ (sym gap-there ∙ k))
 
-      pub both-sound : {header : Section} → b ≡ checked.Sound header → Sound signature header ≡ structuresOpened s len
-      unfolding structuresCheck
-      both-sound k =
-          let m = checked-sound (structureCheck Header s len (headerStart (signatureAt s))) (headerAt s) (sym second ∙ k) in
-          rw (both-pass {rest = structureCheck Header s len (headerStart (signatureAt s))} (first-sound .0), m .0)
-          (cc (first-sound .1, m .1))
+      -- the header as it was checked
+      module _ (c : v ≡ Pass) {b : Checked} (q : b ≡ structureChecked Header s len start) where
+        second : b ≡ structureChecked Header s len (headerStart (signatureAt s))
+        second = q ∙ ap (structureChecked Header s len) start-there
 
--- what passing checks 2 to 13 says
+        left : structuresCheck s len ≡ structureCheck Header s len (headerStart (signatureAt s))
+        unfolding structuresCheck
+        left =
+            both-pass {rest = both (gapIn s len) (structureCheck Header s len (headerStart (signatureAt s)))} (first-sound .0)
+            ∙ both-pass (sym gap-there ∙ c)
+
+        pub second-refused : {number place : ℕ} → b ≡ checked.Unsound number place → Unsound number place ≡ structuresOpened s len
+        second-refused k = rw (left ∙ checked-unsound _ (headerAt s) (sym second ∙ k))
+
+        pub both-sound : {header : Section} → b ≡ checked.Sound header → Sound signature header ≡ structuresOpened s len
+        both-sound k =
+            let m = checked-sound (structureCheck Header s len (headerStart (signatureAt s))) (headerAt s) (sym second ∙ k) in
+            rw (left, m .0) (cc (first-sound .1, m .1))
+
+-- what passing checks 2 to 13 and 28 says
 module _ (s : List ℕ) (h : soundCheck s ≡ Pass) where
   blocks : (sizeCheck (length s) ≡ Pass) × (structureCheck Signature s (length s) leadSize ≡ Pass)
       × (structureCheck Header s (length s) (headerStart (signatureAt s)) ≡ Pass)
@@ -74,7 +93,7 @@ module _ (s : List ℕ) (h : soundCheck s ≡ Pass) where
   blocks =
       let k = both-inverted _ _ h in
       let j = both-inverted _ _ (both-inverted _ _ (k .1) .1) in
-      (k .0, j .0, j .1)
+      (k .0, j .0, both-inverted _ _ (j .1) .1)
 
   pub sound-size : length s ≤ packageLimit
   unfolding sizeCheck

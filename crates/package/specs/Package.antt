@@ -1,4 +1,4 @@
--- Document 01, checks 2 to 13 over a whole package. The length is a number of its own.
+-- Document 01, checks 2 to 13 over a whole package, and request 5: 28 between its two structures. The length is a number of its own.
 use Prim.Native.Nat.{ℕ}
 use mathlib.Core.List.{List}
 use mathlib.Core.Bool.{cond}
@@ -14,6 +14,7 @@ use Rattle.format.specs.Places.{sectionEnd, alignUp}
 use Rattle.format.specs.Lead.{leadOf}
 use Rattle.format.specs.Verdicts.{check, both}
 use Rattle.structure.specs.Structure.{sectionAt, structureCheck}
+use Rattle.gap.specs.Gap.{gapCheck}
 use Rattle.package.specs.declared.Opened.{Opened}
 use Rattle.package.specs.declared.Opened.the-variants.{Sound, Unsound}
 use Rattle.package.specs.Lead.{leadCheck}
@@ -36,12 +37,18 @@ headerStart signature = alignUp 8 (sectionEnd signature)
 abbrev pub headerAt : List ℕ → Section
 headerAt s = sectionAt s (headerStart (signatureAt s))
 
--- 5 to 13 for the signature, then for the header
+-- 28 for the bytes between the signature's end and H
+abbrev pub gapIn : List ℕ → ℕ → Verdict
+gapIn s len = gapCheck s len (sectionEnd (signatureAt s)) (headerStart (signatureAt s))
+
+-- 5 to 13 for the signature, 28, then 5 to 13 for the header
 unfoldable pub structuresCheck : List ℕ → ℕ → Verdict
 structuresCheck s len =
-    both (structureCheck Signature s len leadSize) (structureCheck Header s len (headerStart (signatureAt s)))
+    both (structureCheck Signature s len leadSize)
+    (both (gapIn s len)
+    (structureCheck Header s len (headerStart (signatureAt s))))
 
--- 2 to 13
+-- 2 to 13 and 28
 unfoldable pub packageCheck : List ℕ → ℕ → Verdict
 packageCheck s len = both (sizeCheck len) (both (leadCheck (leadOf s)) (structuresCheck s len))
 
@@ -58,7 +65,7 @@ sectionFor which signature header = cond (eqb which 0) signature header
 abbrev pub structureOf : List ℕ → ℕ → Section
 structureOf s which = sectionFor which (signatureAt s) (headerAt s)
 
--- a package that passed 2 to 13, by its two structures
+-- a package that passed 2 to 13 and 28, by its two structures
 abbrev pub openedAs : Verdict → Section → Section → Opened
 openedAs Pass signature header = Sound signature header
 openedAs (Fail number place) signature header = Unsound number place

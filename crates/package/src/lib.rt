@@ -1,4 +1,4 @@
-// A whole package: checks 2 to 4, and 2 to 13 in order.
+// A whole package: checks 2 to 4, and 2 to 13 and 28 in order.
 ghost use mathlib.Core.Path.{_≡_};
 ghost use Prim.Native.Nat.{_+_, _≤_};
 ghost use Rattle.format.specs.Sizes.{packageLimit};
@@ -13,7 +13,7 @@ use places::FileOffset;
 use places::Start;
 use structure::Checked;
 
-// A package that passed checks 2 to 13, by its signature and its header, or the first check that failed and its place.
+// A package that passed checks 2 to 13 and 28, by its signature and its header, or the first check that failed and its place.
 pub enum Opened {
     Sound(Section, Section),
     Unsound(u32, u32),
@@ -69,7 +69,7 @@ fn header_start(signature: Section) -> Start
     Start::of(((end.get() + 7) / 8 * 8) as u32)
 }
 
-// Checks 5 to 13 for the signature and then the header.
+// Checks 5 to 13 for the signature, 28 for the gap behind it, then 5 to 13 for the header.
 fn structures(pkg: &[u8], len: u32) -> Opened
     requires { ⌜ len ≤ packageLimit ⌝ }
     ensures { λ r. ⌜ r ≡ structuresOpened (now (pkg .entry)) len ⌝ }
@@ -79,6 +79,10 @@ fn structures(pkg: &[u8], len: u32) -> Opened
         Checked::Unsound(number, place) => Opened::Unsound(number, place),
         Checked::Sound(signature) => {
             let start = header_start(signature);
+            let v = gap::check(pkg, len, signature.end(), start);
+            if let Verdict::Fail(number, place) = v {
+                return Opened::Unsound(number, place);
+            }
             let second = structure::check(Structure::Header, pkg, len, start);
             match second {
                 Checked::Unsound(number, place) => Opened::Unsound(number, place),
@@ -88,7 +92,7 @@ fn structures(pkg: &[u8], len: u32) -> Opened
     }
 }
 
-// Checks 2 to 13.
+// Checks 2 to 13 and 28.
 pub fn open(pkg: &[u8]) -> Opened
     ensures { λ r. ⌜ r ≡ opened (now (pkg .entry)) ⌝ }
 {

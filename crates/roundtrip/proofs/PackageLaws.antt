@@ -1,10 +1,10 @@
 -- The package of a name and two lists of entries that may be written: where its parts stand, that it passes checks 2 to 13,
--- 16 and 27, and that all of it is read back (reads-back).
+-- 16, 27 and 28, and that all of it is read back (reads-back).
 use Prim.Native.Nat.{ℕ, suc, _+_, _-_, _≤_, _<_}
 use mathlib.Core.Path.{_≡_, refl, sym, ap, subst, _∙_}
 use mathlib.Core.Logic.{_≢_}
 use mathlib.Core.List.{List, _∷_, _++_}
-use lib.ListN.{length, drop, length-append, length-drop, length-replicate}
+use lib.ListN.{length, drop, getD, length-append, length-drop, length-replicate, getD-replicate}
 use lib.Seq.{take-all}
 use native.Mathlib.Omega.{arith}
 use borrow.Author.Tests.{le-leb, eq-eqb, ne-eqb}
@@ -17,8 +17,9 @@ use Rattle.format.specs.Places.{sectionEnd, alignUp}
 use Rattle.format.proofs.VerdictLaws.{passed, both-pass}
 use Rattle.structure.specs.Structure.{sectionAt, structureCheck}
 use Rattle.index.specs.Lookup.{taggedIn}
-use Rattle.package.specs.Package.{sizeCheck, structuresCheck, packageCheck, soundCheck, signatureAt, headerAt, headerStart}
-use Rattle.package.specs.Package.{structureOf}
+use Rattle.gap.proofs.OrderLaws.{gap-pass}
+use Rattle.package.specs.Package.{sizeCheck, gapIn, structuresCheck, packageCheck, soundCheck}
+use Rattle.package.specs.Package.{signatureAt, headerAt, headerStart, structureOf}
 use Rattle.rules.specs.Rules.{sizeTagCheck}
 use Rattle.md5.specs.Md5.{digest}
 use Rattle.md5.proofs.DigestLaws.{digest-length}
@@ -32,7 +33,7 @@ use Rattle.layout.proofs.LeadLaws.{lead-length}
 use Rattle.layout.proofs.StructureLaws.{structure-length}
 use Rattle.roundtrip.specs.Lawful.{nth, Wide}
 use Rattle.roundtrip.specs.Theorems.{Finds, withOwnOf, ReadsBack}
-use Rattle.roundtrip.proofs.HoldsLaws.{Holds, all, front, rest, moved, part, within}
+use Rattle.roundtrip.proofs.HoldsLaws.{Holds, all, front, rest, moved, byte, part, within}
 use Rattle.reasons.proofs.RightLaws.{ListRight, own-right}
 use Rattle.roundtrip.proofs.ReasonLaws.{Writable}
 use Rattle.roundtrip.proofs.RecordLaws.{Reads}
@@ -71,11 +72,14 @@ module _ (name : List ℕ) (signature header : List ListEntry) (w : Writable nam
   gap-length : length (gapBytes end) ≡ start - end
   gap-length = length-replicate {A = ℕ} (start - end) 0
 
+  behind-signature : Holds p end (gapBytes end ++ structureBytes header)
+  behind-signature = rest (structureBytes entries) _ behind-lead
+
+  gap-here : Holds p end (gapBytes end)
+  gap-here = front (gapBytes end) (structureBytes header) behind-signature
+
   header-here : Holds p start (structureBytes header)
-  header-here =
-      let e = gap-length in
-      moved (omega arith)
-      (rest (gapBytes end) (structureBytes header) (rest (structureBytes entries) _ behind-lead))
+  header-here = let e = gap-length in moved (omega arith) (rest (gapBytes end) (structureBytes header) behind-signature)
 
   whole : length p ≡ start + length (structureBytes header)
   unfolding written
@@ -140,11 +144,22 @@ module _ (name : List ℕ) (signature header : List ListEntry) (w : Writable nam
       (passed _ _ (le-leb _ _ (let l : leadSize ≤ length p = omega arith in l))
       refl))
 
+  -- the bytes between the signature's end and H are those zero bytes
+  gap-zero : (i : ℕ) → end ≤ i → i < start → getD p i 0 ≡ 0
+  gap-zero i a b =
+      let n = gap-length in
+      let e : end + (i - end) ≡ i = omega arith in
+      rw e at (byte gap-here (i - end) (omega arith)) ∙ getD-replicate (start - end) (i - end) 0 0 (omega arith)
+
+  gap-passes : gapIn p (length p) ≡ Pass
+  gap-passes = rw (signature-read .end) (gap-pass p (length p) end start .1 (λ i g. gap-zero i (g .after) (g .before)))
+
   sound : soundCheck p ≡ Pass
   unfolding packageCheck structuresCheck
   sound =
       both-pass size-pass ∙ both-pass (lead-pass name (w .named) p lead-here)
-      ∙ both-pass (signature-read .passes) ∙ ap (structureCheck Header p (length p)) header-start ∙ header-read .passes
+      ∙ both-pass (signature-read .passes) ∙ both-pass gap-passes
+      ∙ ap (structureCheck Header p (length p)) header-start ∙ header-read .passes
 
   size-is : length p - headerStart (signatureAt p) ≡ length (structureBytes header)
   size-is = let a = whole in let b = header-start in omega arith
@@ -192,6 +207,7 @@ module _ (name : List ℕ) (signature header : List ListEntry) (w : Writable nam
   reads-back =
       record {
         sound = sound;
+        gap = rw (signature-read .end) gap-zero;
         signed =
             all-shown p 0 sound entries (signature-read .count) (signature-read .reads) (entries-right .within)
             ∙ sym with-own;

@@ -41,8 +41,10 @@ withOwnOf p signature =
 
 -- reading back gives exactly those entries plus 1000 and 1004
 pub record ReadsBack (p name : List ℕ) (signature header : List ListEntry) : Type 0 where
-  -- p passes checks 2 to 13
+  -- p passes checks 2 to 13 and 28
   pub sound : soundCheck p ≡ Pass
+  -- the bytes between the signature's end and H are zero
+  pub gap : (i : ℕ) → sectionEnd (signatureAt p) ≤ i → i < headerStart (signatureAt p) → getD p i 0 ≡ 0
   -- the signature shows 1000 and 1004 and then the caller's entries, in order; the header the caller's
   pub signed : shown p 0 ≡ withOwnOf p signature
   pub headed : (which : ℕ) → which ≢ 0 → shown p which ≡ header
