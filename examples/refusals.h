@@ -17,6 +17,7 @@ enum place {
     START,         /* file offset where a structure should start */
     HEADER_RECORD, /* file offset in the first 16 bytes of a structure */
     INDEX_RECORD,  /* file offset of an index record */
+    GAP_BYTE,      /* file offset of a byte between signature and header */
     TAG,           /* a tag */
     BOOK_RECORD,   /* offset in the book of a record's kind byte */
     NUMBERS,       /* how many numbers the dose buffer needs */
@@ -199,6 +200,12 @@ static const struct refusal refusals[] = {
             "package changed after it was made",
             AGAIN "for a package made anew. Do not use its doses, even if they look "
                   "right: one of them may be what is damaged."},
+    [28] = {GAP_BYTE,
+            "a byte between the signature's end and the header's start is not zero",
+            "file offset of the first such byte",
+            "stray memory, left there by the program that wrote the package; bytes that "
+            "were changed on the way",
+            AGAIN "for a package that has zero bytes there."},
     [32] = {NOWHERE,
             "writing: the name, a list or an entry is none that can be written",
             "0",

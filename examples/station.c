@@ -208,12 +208,18 @@ static void print_accepted(struct bytes package, uint32_t edition, struct bytes 
 
 /* ---- Where a check failed ---- */
 
-/* Where the header starts, if the signature's numbers are right. */
-static uint64_t header_start(struct bytes package)
+/* Where the signature ends, if its numbers are right. */
+static uint64_t signature_end(struct bytes package)
 {
     uint64_t records = number_at(package, LEAD_SIZE + 8, 4);
     uint64_t store = number_at(package, LEAD_SIZE + 12, 4);
-    return (LEAD_SIZE + RECORD_SIZE + records * RECORD_SIZE + store + 7) / 8 * 8;
+    return LEAD_SIZE + RECORD_SIZE + records * RECORD_SIZE + store;
+}
+
+/* Where the header then starts: at the first multiple of 8 from there on. */
+static uint64_t header_start(struct bytes package)
+{
+    return (signature_end(package) + 7) / 8 * 8;
 }
 
 /* The structure that a place of checks 5 to 13 is in. */
@@ -285,6 +291,19 @@ static void print_index_record(struct bytes package, uint32_t place)
            line == NULL ? "" : ")", number_at(package, place + 4, 4),
            number_at(package, place + 8, 4), number_at(package, place + 12, 4),
            number_at(package, start + 12, 4));
+}
+
+static void print_gap_byte(struct bytes package, uint32_t place)
+{
+    uint64_t gap = signature_end(package), start = header_start(package);
+    printf("file offset %" PRIu32 ", in the gap between signature and header: ", place);
+    print_bytes(package, place, 1);
+    printf(NEXT_LINE "the gap starts at %" PRIu64 ", the header should start at %" PRIu64
+                     "; bytes of the package: %zu",
+           gap, start, package.length);
+    printf(NEXT_LINE "bytes of the gap: ");
+    print_bytes(package, gap, start - gap);
+    printf(", right is 00 for each");
 }
 
 /* Whether the signature lacks a tag that the one beside it needs. */
@@ -444,6 +463,9 @@ static void print_place(struct bytes package, uint32_t number, uint32_t place)
         break;
     case INDEX_RECORD:
         print_index_record(package, place);
+        break;
+    case GAP_BYTE:
+        print_gap_byte(package, place);
         break;
     case TAG:
         print_tag(package, number, place);

@@ -75,6 +75,9 @@
  *   27      the signature's 1004 is not the MD5 digest   1004
  *           of the bytes from the header's start to the
  *           package's end: the package is damaged
+ *   28      a byte between the signature's end and the   offset of the first such
+ *           header's start, the first multiple of 8 at   byte
+ *           or after that end, is not zero
  *   32      the name, a list or an entry is none that    0
  *           can be written
  *   33      the package would be longer than 65,536      0
@@ -82,15 +85,17 @@
  *   34      the package buffer or the digest buffer is   how many bytes are needed
  *           too short
  *
- * Places of 4 to 13 are offsets from the package's first byte, those of 20 to 22
- * from the book's first byte; those of 14 to 19, 23 and 27 are tags. No call answers
- * 28 to 31 or a number above 34; take a number that you do not know for a refusal.
+ * Places of 4 to 13 and 28 are offsets from the package's first byte, those of 20 to
+ * 22 from the book's first byte; those of 14 to 19, 23 and 27 are tags. No call answers
+ * 29 to 31 or a number above 34; take a number that you do not know for a refusal.
  *
  * The checks run in this order: 1 (station_read only); 2 to 4; 5 to 13 for the
- * signature; 5 to 13 for the header; then 14 to 18, 27 and 19 to 24 for station_read,
- * 25 and 26 for look-ups. Within a structure 9 to 13 run record by record. 14 and 15
- * run tag by tag, the signature's tags first. 20 to 22 run record by record of the
- * book. So a damaged header is reported even if you ask for an entry of the signature.
+ * signature; 28; 5 to 13 for the header; then 14 to 18, 27 and 19 to 24 for
+ * station_read, 25 and 26 for look-ups. Within a structure 9 to 13 run record by
+ * record. 14 and 15 run tag by tag, the signature's tags first. 20 to 22 run record by
+ * record of the book. So a damaged header, or a byte before it that is not zero, is
+ * reported even if you ask for an entry of the signature. Where a package ends between
+ * signature and header, 28 tests the bytes that are there; if these are zero it is 5.
  * A look-up does not compare the digest: it also shows the entries of a package that
  * station_read refuses with 27. station_write runs 32, 33 and 34 alone, station_digest
  * 34.
@@ -234,8 +239,8 @@ uint64_t station_find_element(const uint8_t *package, size_t package_len,
  *   34  the package buffer is shorter than the package; with the place's number of
  *       bytes, or STATION_PACKAGE_ROOM, it is written
  *
- * What is written passes checks 2 to 13, 16 and 27: the look-ups show each entry with
- * its data. Whether station_read accepts it is up to the entries: a translated
+ * What is written passes checks 2 to 13, 16, 27 and 28: the look-ups show each entry
+ * with its data. Whether station_read accepts it is up to the entries: a translated
  * string, say, that has more strings than tag 100 is written, and refused when it is
  * read (17). Read it before you send it out. examples/make_book.c does.
  */

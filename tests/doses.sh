@@ -84,6 +84,19 @@ done
 for place in 20 80 95; do
     says "a bit changed at $place" "$(flipped "$right" $place 1 | "$doses"; echo .)" 'edition 2' '27 1250' 'total 1250'
 done
+# nor is the gap before the header, but it is zero: from 164 to 168 here, from 4500 to 4504 in a package of rpmbuild
+for place in 164 165 166 167; do
+    for bit in 1 128; do
+        says "bit $bit changed at $place" "$(flipped "$data/book_payload" $place $bit | "$doses"; echo .)" "refused 28 at $place"
+    done
+    says "a bit changed at $place, and cut there" \
+        "$(flipped "$data/book_payload" $place 1 | head -c $place | "$doses"; echo .)" 'refused 5 at 168'
+    says "a bit changed at $place, and cut behind" \
+        "$(flipped "$data/book_payload" $place 1 | head -c $((place + 1)) | "$doses"; echo .)" "refused 28 at $place"
+done
+says 'bits changed at 165 and 167' "$({ head -c 165 "$data/book_payload"; printf '\1\0\1'; tail -c +169 "$data/book_payload"; } |
+    "$doses"; echo .)" 'refused 28 at 165'
+says 'a bit changed at 4503' "$(flipped tests/data/rb-one.rpm 4503 1 | "$doses"; echo .)" 'refused 28 at 4503'
 
 # input that can't be read is no package
 unread='cannot read standard input'

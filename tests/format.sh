@@ -81,6 +81,11 @@ for place in 148 163 792 830 839; do
     { head -c "$place" "$work/sky.rpm"; printf '%b' "$other"; tail -c "+$((place + 2))" "$work/sky.rpm"; } > "$work/flipped.rpm"
     [ "$("$doses" < "$work/flipped.rpm")" = 'refused 27 at 1004' ] || fail "$page: a bit changed at $place"
 done
+# .. and in the gap
+for place in 164 165 166 167; do
+    { head -c "$place" "$work/sky.rpm"; printf '\1'; tail -c "+$((place + 2))" "$work/sky.rpm"; } > "$work/stray.rpm"
+    [ "$("$doses" < "$work/stray.rpm")" = "refused 28 at $place" ] || fail "$page: a bit changed at $place"
+done
 {
     head -c 144 "$work/sky.rpm"; printf '\0\0\2\xae'
     head -c 180 "$work/sky.rpm" | tail -c +149; printf '\0\0\0\x4e'

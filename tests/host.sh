@@ -174,8 +174,71 @@ done
 refuses "$data/check27_after_system" 18 1021
 refuses "$data/check27_before_4097_bytes" 27 1004
 
+# stray bytes in the gap
+# put FILE PLACE HEX: the file with these bytes there
+put() {
+    local hex=${3// /}
+    head -c "$2" "$1"
+    printf '%b' "$(sed 's/../\\x&/g' <<< "$hex")"
+    tail -c "+$(($2 + ${#hex} / 2 + 1))" "$1"
+}
+# strays ARGUMENTS PLACE START H GAP: the whole output, for a gap from START to H of which these bytes are there
+strays() {
+    local file=${1##* } bytes=($5)
+    refuses "$1" 28 "$2"
+    diff - "$work/out" << END || fail "station $1"
+refused 28 at $2
+Means:  a byte between the signature's end and the header's start is not zero.
+Place:  file offset $2, in the gap between signature and header: ${bytes[$2 - $3]}
+        the gap starts at $3, the header should start at $4; bytes of the package: $(wc -c < "$file")
+        bytes of the gap: $5, right is 00 for each
+Often:  stray memory, left there by the program that wrote the package; bytes that were changed on the way.
+To do:  Fetch the package again. If that does not help, ask the supplier for a package that has zero bytes there.
+Weigh nothing from this package.
+END
+}
+# a sample, whose gap is from 164 to 168: each byte, and the first of several
+sample=$data/book_payload stray=$work/stray
+for gap in '164 01 00 00 00' '165 00 80 00 00' '166 00 00 20 00' '167 00 00 00 FF' '164 FF FF FF FF' '165 00 5A 00 41'; do
+    put "$sample" 164 "${gap#* }" > "$stray"
+    for edition in 1 2; do strays "--edition $edition $stray" "${gap%% *}" 164 168 "${gap#* }"; done
+done
+# the bytes beside the gap are not its own: the digest's last, the header's first
+put "$sample" 163 00 > "$work/beside"
+refuses "$work/beside" 27 1004
+put "$sample" 168 00 > "$work/beside"
+refuses "$work/beside" 6 168
+# cut in the gap: zero bytes, and a stray one that is there, or not there any more
+for length in 164 165 166 167 168 183; do
+    head -c "$length" "$sample" > "$work/cut"
+    refuses "$work/cut" 5 168 "where the header should start; bytes of the package: $length"
+done
+for length in 164 165; do
+    head -c "$length" "$stray" > "$work/cut"
+    refuses "$work/cut" 5 168 "where the header should start; bytes of the package: $length"
+done
+for gap in '166 00 5A' '167 00 5A 00' '168 00 5A 00 41' '183 00 5A 00 41'; do
+    head -c "${gap%% *}" "$stray" > "$work/cut"
+    strays "$work/cut" 165 164 168 "${gap#* }"
+done
+# before the header's checks and the digest, behind those of edition, lead and signature
+put "$stray" 168 00 > "$work/two"
+strays "$work/two" 165 164 168 '00 5A 00 41'
+put "$stray" 148 00 > "$work/two"
+strays "$work/two" 165 164 168 '00 5A 00 41'
+refuses "--edition 3 $stray" 1 0
+put "$stray" 77 02 > "$work/two"
+refuses "$work/two" 4 76
+put "$stray" 119 05 > "$work/two"
+refuses "$work/two" 9 112 "record 1 of 2 in the signature's index"
+put "$stray" 128 000003E8 > "$work/two"
+refuses "$work/two" 13 128 "record 2 of 2 in the signature's index"
+# a package of rpmbuild
+put tests/data/rb-one.rpm 4502 41 > "$work/rpmbuild"
+strays "$work/rpmbuild" 4502 4500 4504 '00 00 41 00'
+
 # 24 cannot come up: the program has room for every book
-for number in $(seq 23) 27; do
+for number in $(seq 23) 27 28; do
     case "$numbers " in *" $number "*) ;; *) fail "no refusal $number" ;; esac
 done
 
@@ -214,6 +277,19 @@ if [ -n "$python" ]; then
     refuses "$work/made" 23 20002 '1 (00 00 00 01)' 'the doses sum to 1251 mg'
     { head -c 119 "$work/made"; printf '\5'; tail -c +121 "$work/made"; } > "$work/type"
     refuses "$work/type" 9 112 "record 1 of 6 in the signature's index"
+    # gaps of every size, the first byte stray, or the last
+    for size in 1 2 3 4 5 6 7 8; do
+        entry=30000:bin:$(printf '41%.0s' $(seq $size))
+        start=$((372 + size)) h=$(((372 + size + 7) / 8 * 8)) zeros=
+        made --signature-entry "$entry"
+        runs 0 "$work/made"
+        [ "$start" != "$h" ] || continue
+        for _ in $(seq $((h - start - 1))); do zeros="$zeros 00"; done
+        made --signature-entry "$entry" --gap 5A
+        strays "$work/made" "$start" "$start" "$h" "5A$zeros"
+        made --signature-entry "$entry" --gap "$zeros 80"
+        strays "$work/made" $((h - 1)) "$start" "$h" "${zeros:1}${zeros:+ }80"
+    done
 fi
 
 # standard input, in pieces and without end

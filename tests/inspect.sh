@@ -33,13 +33,22 @@ made() {
     cat "$1"
 }
 
-# input SPEC: a package of tests/data; PACKAGE:N is its first N bytes, with zeros behind where it has fewer;
-# samples/NAME is a package of crates/samples/data
+# input SPEC: a package of tests/data; samples/NAME is one of crates/samples/data. PACKAGE@PLACE=HEX has these bytes at that
+# place; PACKAGE:N is its first N bytes, with zeros behind where it has fewer
 input() {
+    local package=${1%%[@:]*} puts=${1%%:*} put
+    case $package in
+        samples/*) cat "crates/samples/data/${package#samples/}" ;;
+        *) cat "tests/data/$package" ;;
+    esac > "$work/input"
+    while [ "$puts" != "$package" ]; do
+        put=${puts##*@} puts=${puts%@*}
+        printf '%b' "$(sed 's/../\\x&/g' <<< "${put#*=}")" |
+            dd of="$work/input" bs=1 seek="${put%=*}" conv=notrunc status=none
+    done
     case $1 in
-        samples/*) cat "crates/samples/data/${1#samples/}" ;;
-        *:*) { cat "tests/data/${1%:*}"; head -c 65537 /dev/zero; } > "$work/long"; head -c "${1#*:}" "$work/long" ;;
-        *) cat "tests/data/$1" ;;
+        *:*) head -c 65537 /dev/zero >> "$work/input"; head -c "${1#*:}" "$work/input" ;;
+        *) cat "$work/input" ;;
     esac
 }
 

@@ -294,8 +294,8 @@ refused() {
     [ "$(tail -n 1 "$work/err")" = 'make_book: no package was made' ] || fail "$2: the last line"
     [ ! -s "$work/out" ] && [ "$before" = "$(files)" ] || fail "$2: a file or an output"
 }
-for number in 32 33 34 35 28 4294967295; do WRITES=$number:172 READS=0:1 refused writing $number 172; done
-for number in $(seq 24) 27 28 35; do WRITES=0:172 READS=$number:20002 refused 'reading it again' $number 20002; done
+for number in 32 33 34 35 29 4294967295; do WRITES=$number:172 READS=0:1 refused writing $number 172; done
+for number in $(seq 24) 27 28 29 35; do WRITES=0:172 READS=$number:20002 refused 'reading it again' $number 20002; done
 others='reading it again: the doses are not those of the lines'
 WRITES=0:172 READS=0:0 stops 1 "$others" told 1 < <(echo '27 1250')
 WRITES=0:172 READS=0:2 stops 1 "$others" told 1 < <(echo '27 1250')

@@ -73,6 +73,14 @@ ours signature.rpm "10 at 208: " "10 at 208: " --dose 27:1250 --entry 100:string
 ours digest.rpm "27 at 1004: " "27 at 1004: " --dose 27:1250 --signature-entry 1004:bin:000102030405060708090A0B0C0D0E0F
 ours digest_15.rpm "15 at 1004: " "15 at 1004: " --dose 27:1250 --signature-entry 1004:bin:000102030405060708090A0B0C0D0E
 refused_by_rpm digest.rpm
+# Bytes in the gap, which is from 356 to 360: rpm does not look at them
+make gap_first.rpm "28 at 356: " "28 at 356: " --dose 27:1250 --gap 5A
+make gap_last.rpm "28 at 359: " "28 at 359: " --dose 27:1250 --gap "00 00 00 01"
+make gap_two.rpm "28 at 357: " "28 at 357: " --dose 27:1250 --gap "00 5A 41"
+make gap_zero.rpm "0 at 1: 27 1250" "0 at 1: 27 1250" --book "02 0007" --dose 27:1250 --gap "00 00 00 00"
+cmp "$out/gap_zero.rpm" "$out/example.rpm"
+make gap_none.rpm "0 at 1: 27 1250" "0 at 1: 27 1250" --dose 27:1250 --signature-entry 30000:bin:01020304
+ours gap_system.rpm "28 at 356: " "28 at 356: " --dose 27:1250 --gap 01 --entry 1021:string:hurd
 # turned FILE PART PLACE: example.rpm with one bit turned over at a place of a part in hex; neither accepts it
 turned() {
     python3 -c '
@@ -142,6 +150,10 @@ stops "int64 is none of the types" --book 00 --entry 30000:int64:1
 stops "--entry" --book 00 --entry 30000
 stops "--entry" --book 00 --entry 30000:int32:
 stops "--without" --book 00 --without name
+stops "--gap" --book 00 --gap 0
+stops "--gap" --book 00 --gap 0G
+stops "has 4 bytes: --gap gives 5" --book 00 --gap "00 00 00 00 00"
+stops "has 0 bytes: --gap gives 1" --book 00 --signature-entry 30000:bin:01020304 --gap 00
 
 # unwritten MESSAGE FILE: a file that can't be written
 unwritten() {

@@ -32,6 +32,8 @@ EXAMPLES = """examples:
       refused 14 at 1126
   %(prog)s --dose 27:1250 --signature-entry 1004:bin:00000000000000000000000000000000 wrong.rpm
       refused 27 at 1004
+  %(prog)s --dose 27:1250 --gap "00 5A" wrong.rpm
+      refused 28 at 357
 """
 
 TYPES = {
@@ -55,7 +57,7 @@ def number(text, bits=32):
     return found
 
 
-def book(text):
+def hexadecimal(text):
     return bytes.fromhex(text)
 
 
@@ -118,7 +120,7 @@ def arguments():
     parser = argparse.ArgumentParser(
         description=__doc__, epilog=EXAMPLES, formatter_class=argparse.RawDescriptionHelpFormatter)
     parser.add_argument('output', metavar='FILE', type=pathlib.Path, help='the package to write')
-    parser.add_argument('--book', metavar='HEX', type=book, action='append',
+    parser.add_argument('--book', metavar='HEX', type=hexadecimal, action='append',
                         help='bytes of the book, spaces allowed; may be repeated')
     parser.add_argument('--dose', metavar='OXIDE:MILLIGRAMS', type=dose, action='append', dest='book',
                         help='a record of the book that is weighed; may be repeated. What --book and --dose give is put '
@@ -138,6 +140,8 @@ def arguments():
                              'are separated by commas, bin is hex')
     parser.add_argument('--signature-entry', metavar='TAG:TYPE:VALUE', type=entry, action='append', default=[],
                         help='the same in the signature, where 1000 (size) and 1004 (digest) are right unless given')
+    parser.add_argument('--gap', metavar='HEX', type=hexadecimal, default=b'',
+                        help='bytes to put into the gap before the header, from its start on, in place of zeros')
     parser.add_argument('--without', metavar='TAG', type=int, action='append', default=[],
                         help='a header tag to leave out')
     options = parser.parse_args()
@@ -223,8 +227,11 @@ def make(options):
     ]
     entries = {entry[0]: entry for entry in entries + options.signature_entry}
     signature = in_region(62, [entries[tag] for tag in sorted(entries)])
+    gap = -len(signature) % 8
+    if len(options.gap) > gap:
+        sys.exit(f'make_package: the gap before the header has {gap} bytes: --gap gives {len(options.gap)}')
     title = text_bytes(f'{options.name}-{options.version}-{options.release}')[:65]
-    return package(signature, head, payload, front=lead(title))
+    return package(signature + options.gap, head, payload, front=lead(title))
 
 
 def main():

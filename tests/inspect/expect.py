@@ -86,10 +86,19 @@ def structure(p, start, single):
     return records, at + hsize
 
 
+def gap(p, end, start):
+    """What there is of the bytes from the signature's end to the header's start."""
+    for place, byte in enumerate(p[end:start], end):
+        if byte != 0:
+            refuse(28, place)
+
+
 def opened(p):
     lead(p)
     signature, end = structure(p, 96, single=(6, 9))
-    header, _ = structure(p, (end + 7) // 8 * 8, single=(6,))
+    start = (end + 7) // 8 * 8
+    gap(p, end, start)
+    header, _ = structure(p, start, single=(6,))
     return signature, header
 
 
@@ -140,10 +149,16 @@ def expected(p, args):
 def package(spec):
     """The bytes of a package that a case names."""
     tests = HERE.parent
-    file, _, size = spec.partition(':')
+    changed, _, size = spec.partition(':')
+    file, *puts = changed.split('@')
     if file.startswith('samples/'):
-        return (tests.parent / 'crates/samples/data' / file[len('samples/'):]).read_bytes()
-    p = (tests / 'data' / file).read_bytes()
+        p = (tests.parent / 'crates/samples/data' / file[len('samples/'):]).read_bytes()
+    else:
+        p = (tests / 'data' / file).read_bytes()
+    for put in puts:
+        place, bits = put.split('=')
+        place, bits = int(place), bytes.fromhex(bits)
+        p = p[:place] + bits + p[place + len(bits):]
     return (p + bytes(65537))[:int(size)] if size else p
 
 
