@@ -51,14 +51,14 @@ pub record Left (s : List ℕ) (size first left i : ℕ) : Type 0 where
 pub begun : (s : List ℕ) (size first : ℕ) → Left s size first size first
 begun s size first = record { fewer = omega arith; ends = refl; same = refl }
 
-module _ (s : List ℕ) (len start size first : ℕ) (g : size ≡ gapEnd len start - first) {left i : ℕ}
-    (inv : Left s size first left i) where
+module _ (s : List ℕ) (len start size first : ℕ) {from : ℕ} (g : size ≡ gapEnd len start - from) (e : from ≡ first)
+    {left i : ℕ} (inv : Left s size first left i) where
   module _ (l : 0 < left) where
     within : i < len
     within = let a = ends-within len start in let b = inv .fewer in let c = inv .ends in omega arith
 
     pub place-fits : {here : ℕ} → here ≡ i → Fits w32 len → Fits w32 here
-    place-fits e f = let a = within in let b = f .fits in record { fits = omega arith }
+    place-fits p f = let a = within in let b = f .fits in record { fits = omega arith }
 
     -- b is byte i
     module _ {b : ℕ} (p : b ≡ getD s i 0) where
@@ -68,9 +68,9 @@ module _ (s : List ℕ) (len start size first : ℕ) (g : size ≡ gapEnd len st
           inv .same ∙ ap (λ (n : ℕ). runFrom (zeroCheck s) n i) k ∙ run.first (zeroCheck s) (left - 1) i
 
       pub zero-turn : {next : ℕ} → next ≡ behind i 1 → Fits w32 len → b ≡ 0 → Left s size first (left - 1) next
-      zero-turn e f k =
+      zero-turn q f k =
           let a = within in
-          let n = near i 1 e (let c = f .fits in omega arith) in
+          let n = near i 1 q (let c = f .fits in omega arith) in
           let d = inv .fewer in
           let c = inv .ends in
           record {
@@ -81,10 +81,10 @@ module _ (s : List ℕ) (len start size first : ℕ) (g : size ≡ gapEnd len st
 
       pub stray-ends : {at : ℕ} → at ≡ i → (b ≡ 0 → ⊥) → Fail 28 at ≡ gapCheck s len first start
       unfolding gapCheck
-      stray-ends e k = rw (e, ← g) (sym (unrolled ∙ both-fail _ (stray-fails s i p k)))
+      stray-ends q k = rw (q, ← e, ← g, e) (sym (unrolled ∙ both-fail _ (stray-fails s i p k)))
 
   pub spent : left ≤ 0 → Pass ≡ gapCheck s len first start
   unfolding gapCheck
   spent l =
       let k : left ≡ 0 = omega arith in
-      rw (← g) (sym (inv .same ∙ ap (λ (n : ℕ). runFrom (zeroCheck s) n i) k ∙ run.none (zeroCheck s) i))
+      rw (← e, ← g, e) (sym (inv .same ∙ ap (λ (n : ℕ). runFrom (zeroCheck s) n i) k ∙ run.none (zeroCheck s) i))

@@ -14,11 +14,10 @@ fn gap_end(len: u32, start: Start) -> u32
     if to <= len { to } else { len }
 }
 
-// How many bytes from `end` up to `start` a package of `len` bytes has.
-fn gap_size(len: u32, end: FileOffset, start: Start) -> usize
-    ensures { λ r. ⌜ r ≡ gapEnd len (start .0) - end .0 ⌝ }
+// How many bytes from the place `from` up to `start` a package of `len` bytes has.
+fn gap_size(len: u32, from: usize, start: Start) -> usize
+    ensures { λ r. ⌜ r ≡ gapEnd len (start .0) - from ⌝ }
 {
-    let from = end.get();
     let stop = gap_end(len, start) as usize;
     if stop <= from {
         return 0;
@@ -30,12 +29,14 @@ fn gap_size(len: u32, end: FileOffset, start: Start) -> usize
 pub fn check(s: &[u8], len: u32, end: FileOffset, start: Start) -> Verdict
     ensures { λ r. ⌜ r ≡ gapCheck (now (s .entry)) len (end .0) (start .0) ⌝ }
 {
-    let mut left = gap_size(len, end, start);
+    let from = end.get();
+    let mut left = gap_size(len, from, start);
     let mut place = end;
     while 0 < left {
+        let at = place.get();
         let b = place.byte(s);
         if b != 0 {
-            return Verdict::Fail(28, place.get() as u32);
+            return Verdict::Fail(28, at as u32);
         }
         place = place.behind(1);
         left -= 1;

@@ -6,10 +6,13 @@ use Rattle.gap.proofs.check.Statement.{statement}
 use Rattle.gap.proofs.check.Tie as tie
 
 abbrev Inv-loop : tie.InvT-loop
-Inv-loop s len left₀ place₀ left place = Left s left₀ (place₀ .0) left (place .0)
+Inv-loop s len from left₀ place₀ left place = Left s left₀ (place₀ .0) left (place .0)
 
 abbrev μ-loop : tie.MeasureT-loop
-μ-loop s len left₀ place₀ left place = left
+μ-loop s len from left₀ place₀ left place = left
+
+get-requires : tie.Need-get-requires Inv-loop μ-loop
+get-requires c κs = search needs
 
 gap-size-requires : tie.Need-gap-size-requires Inv-loop μ-loop
 gap-size-requires c κs = search needs
@@ -17,14 +20,14 @@ gap-size-requires c κs = search needs
 loop-holds : tie.Need-loop-holds Inv-loop μ-loop
 loop-holds c = laws.begun _ _ _
 
+get-requires-2 : tie.Need-get-requires-2 Inv-loop μ-loop
+get-requires-2 c κs = search needs
+
 byte-requires : tie.Need-byte-requires Inv-loop μ-loop
 byte-requires c κs = search needs
 
-get-requires : tie.Need-get-requires Inv-loop μ-loop
-get-requires c κs = search needs
-
-cast-t10 : tie.Need-cast-t10 Inv-loop μ-loop
-cast-t10 c = search laws.place-fits
+cast-t11 : tie.Need-cast-t11 Inv-loop μ-loop
+cast-t11 c = search laws.place-fits
 
 returns : tie.Need-returns Inv-loop μ-loop
 returns c = search laws.stray-ends
@@ -50,11 +53,12 @@ check-spec =
     (tie.spec
     Inv-loop
     μ-loop
+    get-requires
     gap-size-requires
     loop-holds
+    get-requires-2
     byte-requires
-    get-requires
-    cast-t10
+    cast-t11
     returns
     behind-requires
     sub-left
