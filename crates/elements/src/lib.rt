@@ -90,7 +90,7 @@ pub fn element(pkg: &[u8], entry: Entry, k: u32) -> Entry
     }
 }
 
-// Checks 2 to 13, 25 and 26: element `k` of the entry of a structure with the tag and the type.
+// Checks 2 to 13, 28, 25 and 26: element `k` of the entry of a structure with the tag and the type.
 fn seek_element(pkg: &[u8], which: u32, tag: u32, ty: u32, k: u32) -> Sought
     ensures { λ r. ⌜ r ≡ soughtElement (now (pkg .entry)) which tag ty k ⌝ }
 {
@@ -107,7 +107,7 @@ fn seek_element(pkg: &[u8], which: u32, tag: u32, ty: u32, k: u32) -> Sought
     }
 }
 
-// The bytes of element `k`, a single string with its zero byte; an empty part where a check of 2 to 13, 25 or 26 fails.
+// The bytes of element `k`, a single string with its zero byte; an empty part where a check of 2 to 13, 28, 25 or 26 fails.
 pub fn find_element(pkg: &[u8], which: u32, tag: u32, ty: u32, k: u32) -> &[u8]
     ensures { λ r. ⌜ now r ≡ findElementBytes (now (pkg .entry)) which tag ty k ⌝ }
 {

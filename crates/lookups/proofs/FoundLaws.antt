@@ -1,4 +1,4 @@
--- Each structure of a package that passed checks 2 to 13: structure-fits, record-passed, entry-sound. What a look-up
+-- Each structure of a package that passed checks 2 to 13 and 28: structure-fits, record-passed, entry-sound. What a look-up
 -- finds is the entry of the record with the tag and the type, and sound: record-of-found, found-of-record, found-sound.
 use Prim.Native.Nat.{ℕ, _≤_, _<_}
 use mathlib.Core.Path.{_≡_, refl, sym, ap, _∙_}

@@ -60,7 +60,7 @@ as-bytes : (s : List ℕ) (f : Found) → foundBytes s f ≡ soughtBytes s (soug
 as-bytes s (At entry) = refl
 as-bytes s Nothing = refl
 
--- where checks 2 to 13 pass, a look-up shows what is found in the structure
+-- where checks 2 to 13 and 28 pass, a look-up shows what is found in the structure
 pub found-shown : (s : List ℕ) (which tag ty : ℕ) → soundCheck s ≡ Pass
     → foundBytes s (findIn s (structureOf s which) tag ty) ≡ findBytes s which tag ty
 unfolding sought

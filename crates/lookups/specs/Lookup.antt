@@ -14,7 +14,7 @@ use Rattle.lookups.specs.declared.Sought.{Sought}
 use Rattle.lookups.specs.declared.Sought.the-variants.{Here, Refused}
 use Rattle.package.specs.Package.{soundCheck, structureOf}
 
--- 2 to 13, then 25 | look-up: no record of that tag and type | 0
+-- 2 to 13 and 28, then 25 | look-up: no record of that tag and type | 0
 abbrev pub soughtAs : Verdict → Found → Sought
 soughtAs Pass (At entry) = Here entry
 soughtAs Pass Nothing = Refused 25 0

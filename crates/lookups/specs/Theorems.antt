@@ -26,13 +26,13 @@ pub record RecordFor (s : List ℕ) (section : Section) (tag ty k : ℕ) : Type 
   pub tagged : recordAt s section k .tag ≡ tag
   pub typed : recordAt s section k .ty ≡ ty
 
--- Data is shown exactly when checks 2 to 13 pass and some index record of the structure has the tag and the type.
+-- Data is shown exactly when checks 2 to 13 and 28 pass and some index record of the structure has the tag and the type.
 abbrev pub LookupExact : Type 0
 LookupExact =
     (s : List ℕ) (which tag ty : ℕ)
     → (findBytes s which tag ty ≢ []) ↔ ((soundCheck s ≡ Pass) × (k : ℕ) × RecordFor s (structureOf s which) tag ty k)
 
--- Where checks 2 to 13 pass and no record has them, the part is empty, with number 25 and place 0.
+-- Where checks 2 to 13 and 28 pass and no record has them, the part is empty, with number 25 and place 0.
 abbrev pub LookupRefuses : Type 0
 LookupRefuses =
     (s : List ℕ) (which tag ty : ℕ) → soundCheck s ≡ Pass → ((k : ℕ) → RecordFor s (structureOf s which) tag ty k → ⊥)

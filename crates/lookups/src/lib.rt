@@ -16,7 +16,7 @@ pub enum Sought {
     Refused(u32, u32),
 }
 
-// Checks 2 to 13 and 25: the entry of a structure with the tag and the type.
+// Checks 2 to 13, 28 and 25: the entry of a structure with the tag and the type.
 pub fn seek(pkg: &[u8], which: u32, tag: u32, ty: u32) -> Sought
     ensures { λ r. ⌜ r ≡ sought (now (pkg .entry)) which tag ty ⌝ }
 {
@@ -55,14 +55,14 @@ pub fn find_in(pkg: &[u8], section: Section, tag: u32, ty: u32) -> &[u8]
     }
 }
 
-// The data of the entry of a structure with the tag and the type; an empty part where a check of 2 to 13 or 25 fails.
+// The data of the entry of a structure with the tag and the type; an empty part where a check of 2 to 13, 28 or 25 fails.
 pub fn find(pkg: &[u8], which: u32, tag: u32, ty: u32) -> &[u8]
     ensures { λ r. ⌜ now r ≡ findBytes (now (pkg .entry)) which tag ty ⌝ }
 {
     shown(pkg, seek(pkg, which, tag, ty))
 }
 
-// Number and place of a look-up: 0 and the data's file offset, or the first failing check of 2 to 13 and 25.
+// Number and place of a look-up: 0 and the data's file offset, or the first failing check of 2 to 13, 28 and 25.
 pub fn find_answer(pkg: &[u8], which: u32, tag: u32, ty: u32) -> Answer
     ensures { λ r. ⌜ r ≡ findAnswer (now (pkg .entry)) which tag ty ⌝ }
 {

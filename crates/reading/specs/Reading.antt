@@ -1,4 +1,5 @@
--- Document 01, "Numbers the station shows": the reading, checks 1 to 24 in order, and request 3: 27 between 18 and 19.
+-- Document 01, "Numbers the station shows": the reading, checks 1 to 24 in order, with 27 between 18 and 19 (request 3)
+-- and 28 between the two structures (request 5).
 use Prim.Native.Nat.{ℕ, _*_}
 use mathlib.Core.List.{List}
 use mathlib.Core.Bool.{cond}
@@ -62,11 +63,11 @@ openedCheck edition s signature header room book =
     both (rulesCheck (edition .hasLine) s (length s) signature header)
     (both (digestCheck s signature header) (bookPart edition s header room book))
 
--- 2 to 24, and 27, at an edition
+-- 2 to 24, 27 and 28, at an edition
 unfoldable pub checksAt : Edition → List ℕ → ℕ → Verdict
 checksAt edition s room = both (soundCheck s) (openedCheck edition s (signatureAt s) (headerAt s) room (bookOf s))
 
--- 1 to 24, and 27, with room for so many numbers
+-- 1 to 24, 27 and 28, with room for so many numbers
 unfoldable pub readingCheck : ℕ → List ℕ → ℕ → Verdict
 readingCheck edition s room = both (editionCheck edition) (checksAt (editionOf edition) s room)
 

@@ -1,5 +1,5 @@
 -- The book and the batch weight are what the package reader's public look-up shows in the header (structure 1), of
--- every package that passes checks 2 to 13. Proved in proofs/ as book-shown and weight-shown.
+-- every package that passes checks 2 to 13 and 28. Proved in proofs/ as book-shown and weight-shown.
 use Prim.Native.Nat.{ℕ}
 use mathlib.Core.Path.{_≡_}
 use mathlib.Core.List.{List}

@@ -13,7 +13,7 @@ use Rattle.reading.specs.declared.opened.Weighing.{Weighing}
 use Rattle.reading.specs.declared.opened.Weighing.the-variants.{Doses, Refused}
 use Rattle.reading.specs.Reading.{editionCheck, bookIn, bookOf, readingCheck}
 
--- a package that passed 1 to 13
+-- a package that passed 1 to 13 and 28
 unfoldable pub openedAt : ℕ → List ℕ → Opened
 openedAt edition s = openedAs (both (editionCheck edition) (soundCheck s)) (signatureAt s) (headerAt s)
 
@@ -26,6 +26,6 @@ abbrev pub weighingAs : Verdict → ℕ → Weighing
 weighingAs Pass count = Doses count
 weighingAs (Fail number place) count = Refused number place
 
--- 1 to 24, and 27
+-- 1 to 24, 27 and 28
 unfoldable pub decided : ℕ → List ℕ → ℕ → Weighing
 decided edition s room = weighingAs (readingCheck edition s room) (length (doses (bookOf s)))

@@ -1,4 +1,4 @@
-// The reading at an edition: checks 1, 23 and 24, and 1 to 18, 27 and 19 to 24 in order.
+// The reading at an edition: checks 1, 23 and 24, and 1 to 13 with 28, 14 to 18, 27 and 19 to 24 in order.
 ghost use mathlib.Core.Path.{_≡_};
 ghost use Prim.Native.Nat.{ℕ};
 ghost use lib.ListN.{length};
@@ -26,7 +26,7 @@ fn edition_check(edition: u32) -> Verdict
     Verdict::Pass
 }
 
-// Checks 1 to 13.
+// Checks 1 to 13 and 28.
 fn open_at(edition: u32, pkg: &[u8]) -> Opened
     ensures { λ r. ⌜ r ≡ openedAt edition (now (pkg .entry)) ⌝ }
 {
@@ -52,8 +52,8 @@ fn decide(edition: u32, pkg: &[u8], found: Opened, bytes: &[u8], room: usize) ->
 }
 
 // Reads a package at an edition. Success is 0 with the dose count; the doses stand at the front of the buffer, oxide then
-// milligrams, and nothing behind them changes. A refusal is the first failing check of 1 to 18, 27 and 19 to 24, and changes
-// nothing.
+// milligrams, and nothing behind them changes. A refusal is the first failing check of 1 to 13 with 28, 14 to 18, 27 and 19
+// to 24, and changes nothing.
 pub fn read(edition: u32, pkg: &[u8], doses: &mut [u32]) -> Answer
     ensures { λ r. ⌜ Read edition (now (pkg .entry)) (now (doses .entry)) r (now (doses .exit)) ⌝ }
 {

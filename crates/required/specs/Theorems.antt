@@ -12,7 +12,7 @@ use Rattle.lookups.specs.Theorems.{RecordFor}
 use Rattle.elements.specs.Elements.{findElementBytes}
 use Rattle.required.specs.Version.{requiredVersion}
 
--- checks 2 to 13 pass, and the header's 1049 and 1050 are string arrays (type 8) of one count
+-- checks 2 to 13 and 28 pass, and the header's 1049 and 1050 are string arrays (type 8) of one count
 pub record StringArrays (s : List ℕ) : Type 0 where
   pub sound : soundCheck s ≡ Pass
   pub names : ℕ

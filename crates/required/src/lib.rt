@@ -81,7 +81,7 @@ fn seek_version(pkg: &[u8], name: &[u8]) -> Sought
     }
 }
 
-// The version required for a name, with its zero byte; an empty part where a check of 2 to 13 fails, nothing matches, or
+// The version required for a name, with its zero byte; an empty part where a check of 2 to 13 or 28 fails, nothing matches, or
 // names and versions are not string arrays of one count.
 pub fn required_version<'p, 'n>(pkg: &'p [u8], name: &'n [u8]) -> &'p [u8]
     ensures { λ r. ⌜ now r ≡ requiredVersion (now (pkg .entry)) (now (name .entry)) ⌝ }

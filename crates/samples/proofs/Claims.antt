@@ -1,4 +1,4 @@
--- The samples marked P, those of requests 2 and 3 and of check 13, and the smallest package that is written, by computation.
+-- The samples marked P, those of requests 2, 3 and 5 and of check 13, and the smallest package that is written, by computation.
 use lib.Dec.{T}
 use Rattle.be.specs.Numbers.{be16At, be32At}
 use Rattle.be.specs.Bytes.{sameBytes}
@@ -10,6 +10,9 @@ use Rattle.among.specs.Among.{tagAmong, firstFrom}
 use Rattle.repeats.specs.Repeats.{tagBefore, repeatedIn, repeatedAmong}
 use Rattle.structure.specs.Structure.{headerCheck, structureCheck}
 use Rattle.index.specs.Lookup.{findFrom}
+use Rattle.gap.specs.Gap.{zeroCheck, gapCheck}
+use Rattle.package.specs.Lead.{leadCheck}
+use Rattle.package.specs.Package.{sizeCheck, structuresCheck, packageCheck}
 use Rattle.locales.specs.Locales.{localeCheck}
 use Rattle.book.specs.Kinds.{isKnown}
 use Rattle.book.specs.Book.{placesFrom, doseLawful, recordCheck, recordsCheck, lengthCheck, bookCheck}
@@ -30,6 +33,7 @@ unfolding be16At be32At sameBytes stringsFrom check both runFrom elementSize cou
     structureCheck localeCheck isKnown placesFrom doseLawful recordCheck recordsCheck lengthCheck bookCheck dosesOf numbersOf
     findFrom wordAt lowFirst rotated auxiliary increased table assigned operated operations performed block blocks paddingBytes
     lengthBytes padded start output digest digestCheck bytesOf tagAmong repeatedIn repeatedAmong firstFrom
+    zeroCheck gapCheck leadCheck sizeCheck structuresCheck packageCheck
 samples-right = tt
 
 pub smallest-right : T smallestRight

@@ -4,4 +4,5 @@ pub mod Locales
 pub mod Written
 pub mod Digests
 pub mod Tags
+pub mod Gaps
 pub mod Samples

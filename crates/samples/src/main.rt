@@ -83,7 +83,6 @@ fn packages() {
     find(b"right", 1106, 4);
     find(b"right", 1106, 3);
     find(b"document_002", 1000, 6);
-    find(b"gap_filled", 1000, 6);
     find(b"check02_limit", 1000, 6);
     find(b"check02_one_more", 1000, 6);
     find(b"check03_empty", 1000, 6);
@@ -105,6 +104,12 @@ fn structures() {
     find(b"check05_signature", 1000, 6);
     find(b"check05_header", 1000, 6);
     find(b"check05_header_behind_end", 1000, 6);
+    find(b"check28_gap_filled", 1000, 6);
+    find(b"check28_last_byte", 1000, 6);
+    find(b"check28_two_bytes", 1000, 6);
+    find(b"check28_cut", 1000, 6);
+    find(b"check28_before_magic", 1000, 6);
+    find(b"check13_before_gap", 1000, 6);
     find(b"check06_magic", 1000, 6);
     find(b"check06_reserved", 1000, 6);
     find(b"check07_none", 1000, 6);
@@ -197,6 +202,14 @@ fn digests() {
     read(b"check27_before_4097_bytes", 2);
 }
 
+// Request 5: a byte of the gap that isn't zero, before the rules and the digest.
+fn gaps() {
+    read(b"check28_book", 1);
+    read(b"check28_book", 2);
+    read(b"check28_before_27", 1);
+    read(b"check28_before_27", 2);
+}
+
 fn book_records() {
     read(b"check19_4097_bytes", 2);
     read(b"check20_kind_96", 2);
@@ -221,6 +234,7 @@ fn main() {
     rules();
     locales();
     digests();
+    gaps();
     book_records();
     write(b"written_smallest");
 }

@@ -6,7 +6,7 @@ ghost use Rattle.elements.specs.Elements.{findElementAnswer};
 ghost use Rattle.lookups.specs.Lookup.{findAnswer};
 ghost use Rattle.station.specs.Station.{StationRead, StationWrite, StationDigest};
 
-// A look-up: 0 and the data's file offset, or the first failing check of 2 to 13 and 25.
+// A look-up: 0 and the data's file offset, or the first failing check of 2 to 13, 28 and 25.
 #[no_mangle]
 pub extern "C" fn station_find(pkg: &[u8], structure: u32, tag: u32, ty: u32) -> u64
     ensures { λ r. ⌜ r ≡ packedOf (findAnswer (now (pkg .entry)) structure tag ty) ⌝ }
@@ -14,7 +14,7 @@ pub extern "C" fn station_find(pkg: &[u8], structure: u32, tag: u32, ty: u32) ->
     lookups::find_answer(pkg, structure, tag, ty).packed()
 }
 
-// An element look-up: 0 and the element's file offset, or the first failing check of 2 to 13, 25 and 26.
+// An element look-up: 0 and the element's file offset, or the first failing check of 2 to 13, 28, 25 and 26.
 #[no_mangle]
 pub extern "C" fn station_find_element(
     pkg: &[u8],
@@ -29,7 +29,7 @@ pub extern "C" fn station_find_element(
 }
 
 // The reading at an edition: 0 and the dose count, with the doses at the front of the buffer, four bytes to a number,
-// big-endian; or the first failing check of 1 to 18, 27 and 19 to 24, and the buffer is as it was.
+// big-endian; or the first failing check of 1 to 13 with 28, 14 to 18, 27 and 19 to 24, and the buffer is as it was.
 #[no_mangle]
 pub extern "C" fn station_read(edition: u32, pkg: &[u8], doses: &mut [u8]) -> u64
     ensures { λ r. ⌜ StationRead edition (now (pkg .entry)) (now (doses .entry)) r (now (doses .exit)) ⌝ }

@@ -1,5 +1,5 @@
 -- The digest that a package states is what the public look-up shows in the signature (structure 0), of every package that
--- passes checks 2 to 13. Proved in proofs/ as digest-shown.
+-- passes checks 2 to 13 and 28. Proved in proofs/ as digest-shown.
 use Prim.Native.Nat.{ℕ}
 use mathlib.Core.Path.{_≡_}
 use mathlib.Core.List.{List}

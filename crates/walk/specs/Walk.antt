@@ -32,7 +32,7 @@ stepIn s section position =
     })
     (refusedStep 26 0 position)
 
--- 2 to 13, then the step
+-- 2 to 13 and 28, then the step
 abbrev pub stepAs : Verdict → List ℕ → Section → ℕ → Step
 stepAs Pass s section position = stepIn s section position
 stepAs (Fail number place) s section position = refusedStep number place position

@@ -68,7 +68,7 @@ impl Position {
         Self { number: 0 }
     }
 
-    // Checks 2 to 13, then the record at this position: 26 at or above the number of records.
+    // Checks 2 to 13 and 28, then the record at this position: 26 at or above the number of records.
     pub fn step(self, pkg: &[u8], which: u32) -> Step
         ensures { λ r. ⌜ r ≡ stepOf (now (pkg .entry)) which (self .number) ⌝ }
     {
