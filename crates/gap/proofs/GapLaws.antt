@@ -1,5 +1,5 @@
--- Where the gap ends: ends-at-start, ends-at-length. Laws of its bytes, with what is left of them (Left), one for each way
--- through a turn: begun, place-fits, zero-turn, stray-ends, spent.
+-- Where the gap ends: ends-at-start, ends-at-length. One byte of it: zero-passes, stray-fails. Laws of all, with what is left of
+-- them (Left), one for each way through a turn: begun, place-fits, zero-turn, stray-ends, spent.
 use Prim.Native.Nat.{ℕ, suc, _+_, _-_, _≤_, _<_}
 use mathlib.Core.Path.{_≡_, refl, sym, ap, _∙_}
 use mathlib.Core.List.{List}
@@ -34,11 +34,11 @@ module _ (len start : ℕ) where
       go false h = omega arith
 
 module _ (s : List ℕ) (i : ℕ) {b : ℕ} (p : b ≡ getD s i 0) where
-  zero-passes : b ≡ 0 → zeroCheck s i ≡ Pass
+  pub zero-passes : b ≡ 0 → zeroCheck s i ≡ Pass
   unfolding zeroCheck check
   zero-passes h = rw (← p, eq-eqb b 0 h)
 
-  stray-fails : (b ≡ 0 → ⊥) → zeroCheck s i ≡ Fail 28 i
+  pub stray-fails : (b ≡ 0 → ⊥) → zeroCheck s i ≡ Fail 28 i
   unfolding zeroCheck check
   stray-fails h = rw (← p, ne-eqb b 0 h)
 

@@ -1,36 +1,33 @@
 -- The gap passes where each of its bytes is zero (gap-pass), and is refused at the first that isn't (gap-in-order).
 use Prim.Native.Nat.{ℕ, _+_, _-_, _≤_, _<_}
-use mathlib.Core.Path.{_≡_, refl, sym}
+use mathlib.Core.Path.{_≡_, refl, sym, _∙_}
 use mathlib.Core.Logic.{_↔_, _≢_}
 use mathlib.Core.List.{List}
 use mathlib.Core.Bool.{Bool, true, false, cond}
 use lib.ListN.{getD}
-use lib.Dec.{eqb, leb}
+use lib.Dec.{leb}
 use native.Mathlib.Omega.{arith}
-use borrow.Author.Tests.{eqb-true, eqb-false, leb-true, leb-false}
+use borrow.Author.Tests.{eqb-true, leb-true, leb-false}
 use Rattle.format.specs.declared.verdict.Verdict.the-variants.{Pass, Fail}
-use Rattle.format.specs.Verdicts.{check}
+use Rattle.format.proofs.VerdictLaws.{inverted}
 use Rattle.format.proofs.FirstLaws.{pass-not-fail, run-passes, run-fails}
 use Rattle.gap.specs.Gap.{gapEnd, zeroCheck, gapCheck}
 use Rattle.gap.specs.Order.{InGap, GapPass, GapInOrder}
+use Rattle.gap.proofs.GapLaws.{zero-passes, stray-fails}
 
 module _ (s : List ℕ) (i : ℕ) where
   byte-passes : (zeroCheck s i ≡ Pass) ↔ (getD s i 0 ≡ 0)
-  unfolding zeroCheck check
-  byte-passes = go (eqb (getD s i 0) 0) refl
-    where
-      go : (b : Bool) → eqb (getD s i 0) 0 ≡ b → (check b 28 i Pass ≡ Pass) ↔ (getD s i 0 ≡ 0)
-      go true p = (λ h. eqb-true _ _ p, λ h. refl)
-      go false p = (λ h. absurd (pass-not-fail (sym h)), λ h. absurd (eqb-false _ _ p h))
+  unfolding zeroCheck
+  byte-passes = (λ h. eqb-true _ _ (inverted _ _ _ _ h .0), zero-passes s i refl)
 
   byte-fails : {number place : ℕ} → (zeroCheck s i ≡ Fail number place) ↔ ((number ≡ 28) × (i ≡ place) × (getD s i 0 ≢ 0))
-  unfolding zeroCheck check
-  byte-fails {number} {place} = go (eqb (getD s i 0) 0) refl
-    where
-      go : (b : Bool) → eqb (getD s i 0) 0 ≡ b
-          → (check b 28 i Pass ≡ Fail number place) ↔ ((number ≡ 28) × (i ≡ place) × (getD s i 0 ≢ 0))
-      go true p = (λ h. absurd (pass-not-fail h), λ h. absurd (h .2 (eqb-true _ _ p)))
-      go false p = (λ h. (cc, cc, eqb-false _ _ p), λ h. cc (h .0, h .1))
+  byte-fails {number} {place} = (
+    λ h.
+        let stray : getD s i 0 ≢ 0 = λ z. pass-not-fail (sym (zero-passes s i refl z) ∙ h) in
+        let same : Fail 28 i ≡ Fail number place = sym (stray-fails s i refl stray) ∙ h in
+        (cc, cc, stray),
+    λ h. stray-fails s i refl (h .2) ∙ cc (h .0, h .1),
+  )
 
 -- the bytes that are gone through are those between the signature's end and H that the package has
 module _ (len end start i : ℕ) where
