@@ -6,7 +6,7 @@ use crate::families::small;
 use crate::maker::{Entry, Package, Structure, S};
 use crate::questions::{ask_entry, question};
 use crate::random::Random;
-use crate::shapes::Shape;
+use crate::shapes::{shape, Plan, Shape};
 
 pub fn gaps(bench: &mut Bench, random: &mut Random) {
     for length in 0..8 {
@@ -23,6 +23,7 @@ pub fn gaps(bench: &mut Bench, random: &mut Random) {
             other_damages(bench, random, &shape);
         }
     }
+    many_records(bench, random);
     places(bench, random);
 }
 
@@ -259,6 +260,28 @@ fn other_damages(bench: &mut Bench, random: &mut Random, shape: &Shape) {
         bytes.resize(size, 0);
         bench.package(&bytes);
         ask_refused(bench, random, shape, number, place);
+    }
+}
+
+/// Gaps behind up to 512 records, and before them.
+fn many_records(bench: &mut Bench, random: &mut Random) {
+    for count in [16, 64, 128, 255, 256, 257, 300, 511, 512] {
+        for records in [[count, 2], [2, count], [count, count]] {
+            for _ in 0..3 {
+                let plan = Plan {
+                    records,
+                    most_elements: 2,
+                    payload: random.below(9),
+                };
+                let shape = shape(random, &plan);
+                for (at, place) in shape.package.gap_place().enumerate() {
+                    let mut package = shape.package.clone();
+                    package.gap[at] = random.nonzero_byte();
+                    bench.package(&package.bytes());
+                    ask_refused(bench, random, &shape, 28, place);
+                }
+            }
+        }
     }
 }
 
