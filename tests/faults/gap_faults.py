@@ -4,8 +4,7 @@
 GAP = "    check_gap(package, signature.end(), header_start)?;\n"
 LOOP = "signature_end..header_start.min(package.len())"
 FOR = f"    for place in {LOOP} {{\n"
-ZERO = "package[place] == 0, place)"
-CHECK_28 = f"        check(28, {ZERO}?;\n"
+CHECK_28 = "        check(28, package[place] == 0, place)?;\n"
 LENGTH = "header_start - signature_end"
 STRAYS = f"({LOOP}).filter(|&place| package[place] != 0)"
 SIZE = "    check(2, package.len() <= MAX_PACKAGE, 0)?;\n"
@@ -39,6 +38,7 @@ def places(those):
 
 
 def place(where):
+    """Another place."""
     return CHECK_28, f"        check(28, package[place] == 0, {where})?;\n"
 
 

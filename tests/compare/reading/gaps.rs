@@ -98,7 +98,7 @@ fn rooms(desk: &mut Desk, random: &mut Random, content: &Content) {
     }
 }
 
-/// A stray byte together with each damage of checks 4 and 6 to 13.
+/// A stray byte together with damages of checks 2, 4 and 6 to 13.
 fn other_structures(desk: &mut Desk, random: &mut Random, content: &Content) {
     let package = content.package();
     let gap = package.gap_place();
@@ -119,6 +119,13 @@ fn other_structures(desk: &mut Desk, random: &mut Random, content: &Content) {
             true => refused(damage.number, damage.place),
             false => refused(28, gap.start + at),
         };
+        desk.case(random, &bytes, &known);
+    }
+    let mut stray = package;
+    stray.gap[0] = random.nonzero_byte();
+    let mut bytes = stray.bytes();
+    for (size, known) in [(65_536, refused(28, gap.start)), (65_537, refused(2, 0))] {
+        bytes.resize(size, 0);
         desk.case(random, &bytes, &known);
     }
 }
