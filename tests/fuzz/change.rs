@@ -136,12 +136,18 @@ fn header_start(input: &[u8]) -> usize {
     end.next_multiple_of(8) as usize
 }
 
+/// A byte that may stand before the header: zero, one bit, all bits.
+fn stray_byte(random: &mut Random) -> u8 {
+    let bit = 1 << random.below(8);
+    random.pick(&[0, bit, bit, 0xFF])
+}
+
 /// Another byte before the header, or an end around there.
 fn change_before_header(input: &mut Vec<u8>, random: &mut Random) {
     let h = header_start(input);
     let at = h - 1 - random.below(8);
     if let (Some(byte), false) = (input.get_mut(at), random.one_in(4)) {
-        *byte = random.pick(&[0, 1, 0x80, 0xFF]);
+        *byte = stray_byte(random);
     }
     if random.one_in(2) {
         input.truncate(h + 4 - random.below(12));
@@ -412,7 +418,7 @@ fn change_gap(package: &mut Package, random: &mut Random) {
             package.gap[one] = random.byte();
             package.gap[two] = 0u8.wrapping_sub(package.gap[one]);
         }
-        _ => package.gap[one] = random.pick(&[0, 1, 0x80, 0xFF]),
+        _ => package.gap[one] = stray_byte(random),
     }
 }
 
