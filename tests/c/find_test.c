@@ -125,7 +125,6 @@ static void lead_fields(void)
     package[75] = 0;
     find("name of 65 bytes", 1, 1000, 6, 0, STORE);
     memset(package + 80, 'x', 16);
-    memset(package + 132, 'x', 4);
     package[8] = package[9] = 'x';
     find("free bytes", 1, 1000, 6, 0, STORE);
 }
@@ -154,6 +153,61 @@ static void structures(void)
     wrong("product over 2^32", THIRD + 12, (1u << 31) + 1, 12, THIRD);
     wrong("sum over 2^32", THIRD + 8, UINT32_MAX - 1, 12, THIRD);
     wrong("tag of the first record", THIRD, 1000, 13, THIRD);
+}
+
+/* The bytes from the signature's end to H, which is 160: 0 to 7 of them. */
+static void gaps(void)
+{
+    static const uint32_t header[][4] = {{1000, 6, 0, 1}};
+    static const uint8_t strays[] = {1, 0x80, 0xFF};
+    static const uint8_t store[16] = "store";
+    for (uint32_t gap = 0; gap < 8; gap++) {
+        uint32_t end = 160 - gap;
+        uint32_t records[][4] = {{1000, 4, 0, 1}, {1002, 7, 4, 12 - gap}};
+        put_lead();
+        put_structure((const uint32_t(*)[4])records, 2, store, 16 - gap);
+        length = 160;
+        refused("no header", 5, 160);
+        put_structure(header, 1, "tin", 4);
+        find("before the gap", 0, 1000, 4, 0, 144);
+        find("behind the gap", 1, 1000, 6, 0, 192);
+        size_t whole = length;
+        for (uint32_t at = end; at < 160; at++) {
+            for (size_t i = 0; i < sizeof strays; i++) {
+                package[at] = strays[i];
+                refused("stray byte", 28, at);
+                length = 160;
+                refused("stray byte, no header", 28, at);
+                length = at + 1;
+                refused("cut behind it", 28, at);
+                length = at;
+                refused("cut before it", 5, 160);
+                length = whole;
+            }
+            package[159] = 1;
+            refused("the first of two", 28, at);
+            package[96] ^= 1;
+            refused("signature's magic", 6, 96);
+            package[96] ^= 1;
+            put(128, 1000);
+            refused("tag of the signature's first record", 13, 128);
+            put(128, 1002);
+            put(160, 0);
+            refused("before the header's magic", 28, at);
+            put(160, 0x8EADE801);
+            put(168, 0);
+            refused("before its nindex", 28, at);
+            put(168, 1);
+            put(180, 0);
+            refused("before its first type", 28, at);
+            put(180, 6);
+            package[at] = package[159] = 0;
+        }
+        package[end - 1] = 0xFF;
+        find("signature's last byte", 1, 1000, 6, 0, 192);
+        package[160] = 0;
+        refused("header's first byte", 6, 160);
+    }
 }
 
 /* Strings of type 9 go by locale number; in the signature there is one. */
@@ -313,6 +367,7 @@ int main(int count, char **words)
     lengths();
     lead_fields();
     structures();
+    gaps();
     locales();
     store_of_8();
     document_002();

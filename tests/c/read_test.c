@@ -498,8 +498,6 @@ static void digests(void)
         turned("book and weight", length - 70 - i, 27);
     for (uint32_t at = 80; at < 96; at++)
         turned("lead", at, 0);
-    for (uint32_t at = stated + 16; at < h; at++)
-        turned("gap", at, 0);
 
     /* Without the last byte, from the payload on, from the lead on. */
     station_digest(package + h, length - h - 1, package + stated, 16);
@@ -525,6 +523,60 @@ static void digests(void)
     make();
     memcpy(package + signature_data(1004, 7), wrong, 16);
     reading("before the room", 2, 7, 27, 1004, NULL);
+}
+
+/* A stray byte right before H; the answer is the same at both editions. */
+static void stray(const char *what)
+{
+    package[h - 1] = 0x0A;
+    refused_twice(what, 28, h - 1);
+    package[h - 1] = 0;
+}
+
+/* The bytes from the signature's end to H: 3 to 0 of them before 184, 7 to 4 before 192. */
+static void gaps(void)
+{
+    static const uint8_t wrong[16] = {1};
+    for (uint32_t size = 1; size <= 8; size++) {
+        with(SIGNATURE, (struct entry)BIN(1002, zeros, size));
+        accepted("gap of zero bytes", 1, 1, cobalt);
+        accepted("gap of zero bytes", 2, 1, cobalt);
+        size_t whole = length;
+        for (uint32_t at = 180 + size; at < h; at++) {
+            package[at] = 0x0A;
+            refused_twice("stray byte", 28, at);
+            reading("stray byte, no room", 2, 7, 28, at, NULL);
+            refused("no such edition", 3, 1, 0);
+            length = at + 1;
+            refused_twice("cut behind it", 28, at);
+            length = at;
+            refused_twice("cut before it", 5, h);
+            length = whole;
+            package[at] = 0;
+        }
+    }
+
+    /* What comes behind. */
+    without(HEADER, 20001);
+    stray("before the lines");
+    without(HEADER, 20002);
+    stray("before the weight's line");
+    with(HEADER, (struct entry)STRING(1021, "Linux"));
+    stray("before the texts");
+    with_book(zeros, 4097, 0);
+    stray("before the book's length");
+    with_book("\x96", 1, 0);
+    stray("before the kinds");
+    with_book("\x00", 1, 1);
+    stray("before the sum");
+    least();
+    make();
+    put(signature_data(1000, 4), 0);
+    stray("before the size");
+    make();
+    memcpy(package + signature_data(1004, 7), wrong, 16);
+    stray("before the digest");
+    refused_twice("the digest alone", 27, 1004);
 }
 
 static void other_writers(const char *folder)
@@ -564,6 +616,7 @@ int main(int count, char **words)
     locales();
     texts();
     digests();
+    gaps();
     other_writers(words[1]);
     printf(PROGRAM ": %d answers right\n", asked);
     return 0;

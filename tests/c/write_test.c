@@ -213,6 +213,13 @@ static void whole_book(const char *path)
     /* H is 168, and the header has 37 records; "C" is first. */
     expect("locales", station_find(lend(), length, 1, 100, 8), 0, 168 + 16 + 37 * 16);
     expect("weight", station_find(lend(), length, 1, 20002, 4), 0, (uint32_t)length - 4);
+    /* The signature ends at 164. */
+    for (uint32_t at = 164; at < 168; at++) {
+        package[at] = 1;
+        expect("stray byte", station_read(2, lend(), length, doses, sizeof doses), 28, at);
+        expect("stray byte", station_find(lend(), length, 1, 20002, 4), 28, at);
+        package[at] = 0;
+    }
     if (memcmp(package + 10, "book-1-1", 9) != 0 ||
         memcmp(doses, "\0\0\0\33\0\0\4\342", 8) != 0) {
         fprintf(stderr, PROGRAM ": the book's name or dose\n");

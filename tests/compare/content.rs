@@ -70,7 +70,8 @@ pub struct Content {
     pub size_off: u32,
     /// The bits in which 1004 is not the digest.
     pub digest_off: u128,
-    pub gap: u8,
+    /// What stands before the header, as `Package` has it.
+    pub gap: [u8; 7],
     pub payload: Vec<u8>,
     /// 0: records in list order, data packed. Other numbers: each its own layout.
     pub layout: u64,
@@ -124,7 +125,7 @@ impl Content {
             items: [signature, header],
             size_off: 0,
             digest_off: 0,
-            gap: 0,
+            gap: [0; 7],
             payload: Vec::new(),
             layout: 0,
         }

@@ -61,12 +61,15 @@ impl List {
     }
 }
 
-/// Every damage that leaves the length: checks 4 and 6 to 13.
+/// Every damage that leaves the length: checks 4, 6 to 13 and 28.
 pub fn all(package: &Package, random: &mut Random) -> Vec<Damage> {
     let bytes = package.bytes();
     let mut list = List(Vec::new());
     lead(&mut list, &bytes, random);
     for (number, (start, structure)) in package.structures().into_iter().enumerate() {
+        if number == 1 {
+            gap(&mut list, package, random);
+        }
         header_record(&mut list, &bytes, start, structure, random);
         for position in 0..structure.records.len() {
             index_record(&mut list, number, start, structure, position, random);
@@ -85,6 +88,15 @@ fn lead(list: &mut List, bytes: &[u8], random: &mut Random) {
     }
     let name = (0..66).map(|_| random.nonzero_byte()).collect();
     list.bytes("name without zero", 4, 10, 10, name);
+}
+
+/// A stray byte at each place of the gap.
+fn gap(list: &mut List, package: &Package, random: &mut Random) {
+    for at in package.gap_place() {
+        for byte in [1, 0x80, random.nonzero_byte()] {
+            list.bytes("stray byte", 28, at, at, vec![byte]);
+        }
+    }
 }
 
 fn header_record(
@@ -220,8 +232,8 @@ fn index_record(
     }
 }
 
-/// What a right package becomes when only its first `length` bytes are left:
-/// checks 3, 5 and 8, or `None` where it stays right.
+/// What a package, right but perhaps for its gap, becomes when only its first `length` bytes
+/// are left: checks 3, 5, 8 and 28, or `None` where it is right.
 pub fn cut(package: &Package, length: usize) -> Option<(u32, usize)> {
     let h = package.h();
     if length < S {
@@ -230,6 +242,8 @@ pub fn cut(package: &Package, length: usize) -> Option<(u32, usize)> {
         Some((5, S))
     } else if length < S + package.signature.size() {
         Some((8, S + 12))
+    } else if let Some(place) = package.stray().filter(|&place| place < length) {
+        Some((28, place))
     } else if length < h + 16 {
         Some((5, h))
     } else if length < h + package.header.size() {

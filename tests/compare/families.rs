@@ -3,6 +3,7 @@
 use crate::bench::{Answer, Bench, Question};
 use crate::damage;
 use crate::fence::ROOM;
+use crate::gaps::gaps;
 use crate::maker::{is_single, lead, size_of, Entry, Package, Structure, S};
 use crate::questions::*;
 use crate::random::Random;
@@ -10,7 +11,7 @@ use crate::repeats::repeats;
 use crate::shapes::{shape, Known, Plan, Shape, LAWFUL};
 
 /// All families with their names, in the order in which they run.
-pub const ALL: [(&str, fn(&mut Bench, &mut Random)); 12] = [
+pub const ALL: [(&str, fn(&mut Bench, &mut Random)); 13] = [
     ("right packages", right_packages),
     ("many records", many_records),
     ("sizes", sizes),
@@ -23,9 +24,10 @@ pub const ALL: [(&str, fn(&mut Bench, &mut Random)); 12] = [
     ("random bytes", noise),
     ("translated strings", translated),
     ("repeated tags of an index", repeats),
+    ("gaps", gaps),
 ];
 
-fn small(random: &mut Random) -> Shape {
+pub fn small(random: &mut Random) -> Shape {
     let plan = Plan::small(random);
     shape(random, &plan)
 }

@@ -19,6 +19,7 @@ mod damage;
 mod digest;
 mod families;
 mod fence;
+mod gaps;
 #[cfg(reading)]
 mod lines;
 mod maker;
@@ -44,10 +45,10 @@ use random::Random;
 const NUMBERS: &[u32] = if cfg!(reading) {
     &[
         0, 1, 2, 3, 4, 5, 6, 7, 8, 9, 10, 11, 12, 13, 14, 15, 16, 17, 18, 19, 20, 21, 22, 23, 24, 25, 26,
-        27, 32, 33, 34,
+        27, 28, 32, 33, 34,
     ]
 } else {
-    &[0, 2, 3, 4, 5, 6, 7, 8, 9, 10, 11, 12, 13, 25, 26, 32, 33, 34]
+    &[0, 2, 3, 4, 5, 6, 7, 8, 9, 10, 11, 12, 13, 25, 26, 28, 32, 33, 34]
 };
 /// Those of the writer.
 const WRITING: [u32; 4] = [0, 32, 33, 34];

@@ -1,5 +1,7 @@
 //! Makes packages from lists of entries.
 
+use std::ops::Range;
+
 #[path = "md5.rs"]
 pub mod md5;
 
@@ -87,8 +89,9 @@ impl Structure {
 pub struct Package {
     pub lead: [u8; 96],
     pub signature: Structure,
-    /// What stands between the signature and the header.
-    pub gap: u8,
+    /// What stands between the signature and the header: as many of these bytes, from the
+    /// first on, as there are.
+    pub gap: [u8; 7],
     pub header: Structure,
     pub payload: Vec<u8>,
 }
@@ -132,7 +135,7 @@ impl Package {
         Package {
             lead: lead(),
             signature,
-            gap: 0,
+            gap: [0; 7],
             header,
             payload: Vec::new(),
         }
@@ -141,6 +144,17 @@ impl Package {
     /// H, where the header starts.
     pub fn h(&self) -> usize {
         (S + self.signature.size()).next_multiple_of(8)
+    }
+
+    /// From the signature's end to H.
+    pub fn gap_place(&self) -> Range<usize> {
+        S + self.signature.size()..self.h()
+    }
+
+    /// The first byte of the gap that isn't zero, if there is one: the place of 28.
+    pub fn stray(&self) -> Option<usize> {
+        let mut bytes = self.gap_place().zip(self.gap);
+        bytes.find(|&(_, byte)| byte != 0).map(|(place, _)| place)
     }
 
     /// The bytes from H to the end.
@@ -173,7 +187,7 @@ impl Package {
     pub fn bytes(&self) -> Vec<u8> {
         let mut out = self.lead.to_vec();
         self.signature.write(&mut out);
-        out.resize(self.h(), self.gap);
+        out.extend(&self.gap[..self.gap_place().len()]);
         out.extend(self.from_h());
         out
     }

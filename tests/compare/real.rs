@@ -1,5 +1,6 @@
 //! The packages in tests/data, which other writers made.
 
+use std::ops::Range;
 use std::path::{Path, PathBuf};
 
 use crate::bench::{Answer, Bench, Question};
@@ -108,14 +109,23 @@ pub fn stated_digests(bench: &mut Bench, data: &Path) {
     }
 }
 
-/// Every record, then the packages with bytes changed and cut off.
+/// Every record, then the packages with bytes in their gaps, changed and cut off.
 pub fn asked_and_damaged(bench: &mut Bench, random: &mut Random, data: &Path) {
+    let mut gaps_seen = 0;
     for file in files(data) {
         let right = std::fs::read(file).unwrap();
         let records = records(&right);
         bench.package(&right);
         for &(structure, record) in &records {
             ask_record(bench, random, &right, structure, record);
+        }
+        for (bytes, number, place) in gaps(&right) {
+            bench.package(&bytes);
+            for &(structure, record) in [&records[0], &records[records.len() - 1]] {
+                let known = Answer::new(number, place);
+                ask_known(bench, &right, structure, record, known);
+            }
+            gaps_seen += usize::from(number == 28);
         }
         for round in 0..600 {
             let mut bytes = right.clone();
@@ -129,15 +139,59 @@ pub fn asked_and_damaged(bench: &mut Bench, random: &mut Random, data: &Path) {
             ask_record(bench, random, &right, structure, record);
         }
     }
+    assert!(gaps_seen > 0, "no package in tests/data has a gap");
+}
+
+fn number(bytes: &[u8], at: usize) -> usize {
+    u32::from_be_bytes(bytes[at..at + 4].try_into().unwrap()) as usize
+}
+
+/// From the signature's end to H.
+fn gap(bytes: &[u8]) -> Range<usize> {
+    let end = S + 16 + 16 * number(bytes, S + 8) + number(bytes, S + 12);
+    end..end.next_multiple_of(8)
 }
 
 /// Structure and file offset of every index record, right or wrong.
 fn records(bytes: &[u8]) -> Vec<(u32, usize)> {
-    let number = |at: usize| u32::from_be_bytes(bytes[at..at + 4].try_into().unwrap()) as usize;
-    let end = S + 16 + 16 * number(S + 8) + number(S + 12);
     let mut places = Vec::new();
-    for (structure, start) in [(0, S), (1, end.next_multiple_of(8))] {
-        places.extend((0..number(start + 8)).map(|n| (structure, start + 16 + 16 * n)));
+    for (structure, start) in [(0, S), (1, gap(bytes).end)] {
+        let count = number(bytes, start + 8);
+        places.extend((0..count).map(|n| (structure, start + 16 + 16 * n)));
     }
     places
+}
+
+/// Asks for the entry of a record, and for its first element.
+fn ask_known(bench: &mut Bench, bytes: &[u8], structure: u32, record: usize, known: Answer) {
+    let question = Question {
+        structure,
+        tag: number(bytes, record) as u32,
+        ty: number(bytes, record + 4) as u32,
+        element: Some(0),
+    };
+    bench.ask_both(question, Some(known));
+}
+
+/// A right package with stray bytes in its gap and cut off there, and what each must give.
+pub fn gaps(right: &[u8]) -> Vec<(Vec<u8>, u32, usize)> {
+    let gap = gap(right);
+    let mut made = Vec::new();
+    for length in gap.start..=gap.end {
+        made.push((right[..length].to_vec(), 5, gap.end));
+    }
+    for at in gap.clone() {
+        for value in [1, 0x80, 0xFF] {
+            let mut bytes = right.to_vec();
+            bytes[at] = value;
+            for length in at + 1..=gap.end {
+                made.push((bytes[..length].to_vec(), 28, at));
+            }
+            made.push((bytes.clone(), 28, at));
+            // The first of several.
+            bytes[at..gap.end].fill(value);
+            made.push((bytes, 28, at));
+        }
+    }
+    made
 }

@@ -45,7 +45,7 @@ pub fn shape(random: &mut Random, plan: &Plan) -> Shape {
     let package = Package {
         lead: free_lead(random),
         signature,
-        gap: random.byte(),
+        gap: [0; 7],
         header,
         payload: random.bytes(plan.payload),
     };

@@ -87,7 +87,7 @@ FAULTS = [
     (1, "edition of 16 bits", CHECK_1, "    let edition = edition as u16 as u32;\n" + CHECK_1),
     (1, "edition of 31 bits", CHECK_1, "    let edition = edition << 1 >> 1;\n" + CHECK_1),
     (1, "after 13",
-     CHECK_1 + "\n    // Checks 2 to 13.\n    let opened = sound(package)?;\n",
+     CHECK_1 + "\n    // Checks 2 to 13 and 28.\n    let opened = sound(package)?;\n",
      "    let opened = sound(package)?;\n" + CHECK_1),
 
     (14, "not tested", "line.status != Required", "true"),

@@ -23,6 +23,7 @@ import sys
 import time
 
 import digest_faults
+import gap_faults
 import package_faults
 import reading_faults
 import writer_faults
@@ -32,7 +33,8 @@ REFERENCE = pathlib.Path("tests/reference")
 # Beside links to tests/compare and tests/data, which the samples include.
 COPY = OUT / "tests/reference"
 RUST = ["rustc", "--edition", "2021", "-A", "warnings", "-C", f"incremental={OUT / 'incremental'}"]
-FAULTS = package_faults.FAULTS + reading_faults.FAULTS + digest_faults.FAULTS + writer_faults.FAULTS
+FAULTS = (package_faults.FAULTS + gap_faults.FAULTS + reading_faults.FAULTS + digest_faults.FAULTS
+          + writer_faults.FAULTS)
 
 CONTENT = "one damage to an accepted package"
 # The families to try for the writer's faults before all others.
@@ -46,14 +48,15 @@ FIRST = {
     1: "editions", 2: "sizes", 3: "cuts", 5: "cuts", 13: "repeated tags of an index",
     14: CONTENT, 15: CONTENT, 16: CONTENT, 17: CONTENT, 18: CONTENT,
     19: "lengths of books", 20: "kinds", 21: "kinds", 22: "oxides and milligrams",
-    23: CONTENT, 24: "dose buffers", 27: "digests of packages", "digest": "digests", 25: "right packages", 26: "right packages",
+    23: CONTENT, 24: "dose buffers", 25: "right packages", 26: "right packages",
+    27: "digests of packages", 28: "gaps", "digest": "digests",
     "package": "right packages", "buffer": "dose buffers", "demand3": "kinds",
     33: "sizes of written packages", 34: "buffers to write to", "writer": "written packages",
 }
 # Those to try next.
 NEXT = {
     10: ["translated strings"], 12: ["translated strings"], 13: ["one damage"], 17: ["locales"],
-    26: ["translated strings"], "demand3": ["locales"],
+    26: ["translated strings"], 28: ["gaps of accepted packages", "gaps of written packages"], "demand3": ["locales"],
     "digest": ["digest buffers", "large digests", "a digest of over 2^32 bits"],
 }
 SAMPLES = "the reference's own samples"

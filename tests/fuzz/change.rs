@@ -130,6 +130,30 @@ pub fn near(random: &mut Random, number: u32) -> u32 {
     }
 }
 
+/// Where the header should start.
+fn header_start(input: &[u8]) -> usize {
+    let end = S as u64 + 16 + 16 * u64::from(word(input, S + 8)) + u64::from(word(input, S + 12));
+    end.next_multiple_of(8) as usize
+}
+
+/// A byte that may stand before the header: zero, one bit, all bits.
+fn stray_byte(random: &mut Random) -> u8 {
+    let bit = 1 << random.below(8);
+    random.pick(&[0, bit, bit, 0xFF])
+}
+
+/// Another byte before the header, or an end around there.
+fn change_before_header(input: &mut Vec<u8>, random: &mut Random) {
+    let h = header_start(input);
+    let at = h - 1 - random.below(8);
+    if let (Some(byte), false) = (input.get_mut(at), random.one_in(4)) {
+        *byte = stray_byte(random);
+    }
+    if random.one_in(2) {
+        input.truncate(h + 4 - random.below(12));
+    }
+}
+
 fn change_bytes(input: &mut Vec<u8>, random: &mut Random) {
     if input.is_empty() {
         *input = random.bytes(S);
@@ -137,7 +161,7 @@ fn change_bytes(input: &mut Vec<u8>, random: &mut Random) {
     let len = input.len();
     let at = random.below(len);
     let some = (1 + random.below(16)).min(len - at);
-    match random.below(10) {
+    match random.below(11) {
         0 => input[at] ^= 1 << random.below(8),
         1 => input[at] = random.byte(),
         2 => {
@@ -158,15 +182,14 @@ fn change_bytes(input: &mut Vec<u8>, random: &mut Random) {
                 input[field] = random.pick(&[0, 1, 2, 3, 4, 5, 6, 255]);
             }
         }
+        8 => change_before_header(input, random),
         _ => change_head(input, random),
     }
 }
 
 /// Changes one of a structure's first 16 bytes, or a field of its index.
 fn change_head(input: &mut [u8], random: &mut Random) {
-    let header =
-        S as u64 + 16 + 16 * u64::from(word(input, S + 8)) + u64::from(word(input, S + 12));
-    let header = header.next_multiple_of(8) as usize;
+    let header = header_start(input);
     let start = random.pick(&[S, header, header]);
     let nindex = word(input, start + 8).clamp(1, 512) as usize;
     let field = match random.below(3) {
@@ -194,13 +217,18 @@ fn either<'a>(
 fn change_parts(package: &mut Package, random: &mut Random) {
     let files = position(&package.header, 1028).map_or(1, |at| package.header.records[at][3]);
     let files = files.clamp(1, 8);
-    match random.below(19) {
+    // Stray bytes of an earlier change would hide this one.
+    if !random.one_in(4) {
+        package.gap = [0; 7];
+    }
+    match random.below(20) {
         0..=3 => change_book(&mut package.header, random),
         4 | 5 => change_group(package, random),
         6 => change_files(&mut package.header, random),
         7 => change_text(&mut package.header, random),
         8 => change_rest(package, random),
         9 => change_locales(&mut package.header, random),
+        19 => change_gap(package, random),
         n => {
             let (number, structure, lines) = either(package, random);
             match n {
@@ -378,15 +406,30 @@ fn change_locales(header: &mut Structure, random: &mut Random) {
     }
 }
 
+/// Another length of the gap, stray bytes there: one, two or all.
+fn change_gap(package: &mut Package, random: &mut Random) {
+    let more = random.below(8);
+    package.signature.store.extend(random.bytes(more));
+    let length = package.gap_place().len().max(1);
+    let [one, two] = [0; 2].map(|_| random.below(length));
+    match random.below(4) {
+        0 => package.gap = [0; 7].map(|_| random.byte()),
+        1 => {
+            package.gap[one] = random.byte();
+            package.gap[two] = 0u8.wrapping_sub(package.gap[one]);
+        }
+        _ => package.gap[one] = stray_byte(random),
+    }
+}
+
 /// What stands outside the entries.
 fn change_rest(package: &mut Package, random: &mut Random) {
     let count = random.below(24);
-    match random.below(6) {
-        0 => package.gap = random.byte(),
-        1 => package.payload = random.bytes(count),
-        2 => package.signature.store.extend(random.bytes(count)),
-        3 => package.header.store.extend(random.bytes(count)),
-        4 => {
+    match random.below(5) {
+        0 => package.payload = random.bytes(count),
+        1 => package.signature.store.extend(random.bytes(count)),
+        2 => package.header.store.extend(random.bytes(count)),
+        3 => {
             let store = &mut package.header.store;
             store.resize(store.len() + random.below(60_000), 0);
         }

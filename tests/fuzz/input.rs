@@ -128,10 +128,12 @@ pub fn parts(bytes: &[u8]) -> Option<Package> {
     let (signature, end) = structure(bytes, S)?;
     let start = end.next_multiple_of(8);
     let (header, payload) = structure(bytes, start)?;
+    let mut gap = [0; 7];
+    gap[..start - end].copy_from_slice(&bytes[end..start]);
     Some(Package {
         lead,
         signature,
-        gap: if start > end { bytes[end] } else { 0 },
+        gap,
         header,
         payload: bytes[payload..].to_vec(),
     })

@@ -86,9 +86,15 @@ def wrong_header(answer, entries, drop=()):
     return both(right(DOSE, header=entries, drop=drop), answer)
 
 
+def with_gap(length):
+    """A package whose signature has a third entry and ends so many bytes before 192."""
+    return right(DOSE, signature={1002: (BIN, b'\x55' * (12 - length))})
+
+
 RIGHT = right(DOSE)
 TAG, TYPE, OFFSET, COUNT = range(4)
 assert header_start(RIGHT) == H
+assert header_start(with_gap(0)) == header_start(with_gap(7)) == 192
 
 FILES = {
     1028: (INT32, [1, 2, 3]), 1030: (INT16, [0o100644] * 3), 1033: (INT16, [0] * 3), 1034: (INT32, [0] * 3),
@@ -135,6 +141,9 @@ SEEDS = {
     'accepted_both_locales': both(ask(right(DOSE, header=LOCALES), tag=1004, ty=I18N, element=2), '0@1'),
     'accepted_both_256_locales': both(right(DOSE, header={100: (STRINGS, [b''] * 256), 1005: TWO}), '0@1'),
     'accepted_both_signature_text': both(right(DOSE, signature={30006: (I18N, b'one')}), '0@1'),
+    'accepted_both_no_gap': both(with_gap(0), '0@1'),
+    'accepted_both_gap_of_1': both(with_gap(1), '0@1'),
+    'accepted_both_gap_of_7': both(with_gap(7), '0@1'),
     'accepted_both_long_name': both(put(10, b'x' * 65 + b'\0', RIGHT), '0@1'),
     'accepted_edition_2_tolerance': (right(TOLERATED), '20@0', '0@1'),
     'accepted_edition_2_all_kinds': (right(PAGE + DOSE + DATE + TOLERATED), '20@15', '0@2'),
@@ -146,6 +155,8 @@ SEEDS = {
     'check04_name': both(put(10, b'x' * 66, RIGHT), '4@10'),
     'check05_signature': both(RIGHT[:S + 15], f'5@{S}'),
     'check05_header': both(RIGHT[:H + 15], f'5@{H}'),
+    'check05_end_of_signature': both(RIGHT[:H - 4], f'5@{H}'),
+    'check05_in_the_gap': both(RIGHT[:H - 2], f'5@{H}'),
     'check06_magic': both(put(H + 3, b'\x02', RIGHT), f'6@{H}'),
     'check06_reserved': both(put(S + 7, b'\x01', RIGHT), f'6@{S + 4}'),
     'check07_none': both(word(H + 8, 0, RIGHT), f'7@{H + 8}'),
@@ -162,6 +173,17 @@ SEEDS = {
     'check12_strings': at_record(H, 1117, COUNT, 1000, 12),
     'check12_translations': at_record(H, 1005, COUNT, 1000, 12),
     'check13_tag_twice': at_record(H, 1022, TAG, 1021, 13),
+    'check28_first_of_7': both(put(185, b'\x01', with_gap(7)), '28@185'),
+    'check28_last_of_7': both(put(191, b'\x80', with_gap(7)), '28@191'),
+    'check28_of_1': both(put(191, b'\xff', with_gap(1)), '28@191'),
+    'check28_two': both(put(H - 3, b'\x40\x00\xc0', RIGHT), f'28@{H - 3}'),
+    'check28_all': both(put(H - 4, b'junk', RIGHT), f'28@{H - 4}'),
+    'check28_cut': both(put(H - 2, b'\x0a', RIGHT)[:H - 1], f'28@{H - 2}'),
+    'check28_cut_at_header': both(put(H - 1, b'\x0a', RIGHT)[:H + 3], f'28@{H - 1}'),
+    'check28_after_tag_twice': both(put(H - 4, b'\x01', field(RIGHT, S, 1004, TAG, 1000)[0]), f'13@{S + 32}'),
+    'check28_before_magic': both(put(H - 1, b'\x01\x8f', RIGHT), f'28@{H - 1}'),
+    'check28_before_digest': both(put(H - 4, b'\x01', turned(BOOK, b'payload')), f'28@{H - 4}'),
+    'check28_before_weight': both(put(H - 2, b'\x01', right(DOSE, drop=[20002])), f'28@{H - 2}'),
     'check14_signature': both(field(RIGHT, S, 1004, TAG, 1003)[0], '14@1004'),
     'check14_header': wrong_header('14@1126', {}, drop=[1126]),
     'check15_signature': both(right(DOSE, signature={1004: (BIN, bytes(17))}), '15@1004'),

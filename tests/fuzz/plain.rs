@@ -21,11 +21,11 @@ const MOST_BYTES: usize = 8192;
 fn possible() -> [Vec<usize>; 6] {
     let but = |most: usize, not: &[usize]| (0..=most).filter(|n| !not.contains(n)).collect();
     [
-        but(27, &[1, 23, 25, 26]),
-        but(27, &[1, 25, 26]),
+        but(28, &[1, 23, 25, 26]),
+        but(28, &[1, 25, 26]),
         vec![1],
-        (0..=26)
-            .filter(|n| !(14..=24).contains(n) && *n != 1)
+        (0..=28)
+            .filter(|n| !(14..=24).contains(n) && ![1, 27].contains(n))
             .collect(),
         vec![0, 32, 33, 34],
         vec![0, 34],
@@ -60,7 +60,7 @@ fn main() {
 
     let mut random = Random::new(seed);
     let mut seen = vec![false; SORTS];
-    // Those of `kept` that pass checks 2 to 13, and those that are accepted.
+    // Those of `kept` that pass checks 2 to 13 and 28, and those that are accepted.
     let mut sound: Vec<usize> = (0..seeds).collect();
     let mut accepted = sound.clone();
     let mut executions = 0;
@@ -90,7 +90,7 @@ fn main() {
             let number = answers[0].number().min(answers[1].number());
             if number == 0 {
                 accepted.push(kept.len());
-            } else if number > 13 {
+            } else if number > 13 && number != 28 {
                 sound.push(kept.len());
             }
             kept.push(input);

@@ -49,7 +49,7 @@ pub struct Target {
 }
 
 /// Answers of one sort have the same number, and places that are much alike: near
-/// ones for 5 to 13, single ones where places say more.
+/// ones for 5 to 13, as far from H for 28, single ones where places say more.
 fn sort(who: usize, answer: Answer) -> usize {
     let place = answer.place() as usize;
     let place = match answer.number() {
@@ -57,6 +57,7 @@ fn sort(who: usize, answer: Answer) -> usize {
         3 => 0,
         5..=13 => place / 128,
         14..=18 | 27 => place % 251,
+        28 => place % 8,
         _ => place,
     };
     (who * NUMBERS + answer.number() as usize) * PLACES + place.min(PLACES - 1)
@@ -171,11 +172,11 @@ impl Target {
         length
     }
 
-    /// A written package passes checks 2 to 13, 16 and 27.
+    /// A written package passes checks 2 to 13, 16, 27 and 28.
     fn read_written(&mut self, package: &[u8]) {
         self.desk.bench.package(package);
         for answer in self.desk.both(ROOM, None) {
-            if matches!(answer.number(), 2..=13 | 16 | 27) {
+            if matches!(answer.number(), 2..=13 | 16 | 27 | 28) {
                 let difference = format!("library {answer}: what it wrote");
                 self.desk.bench.fail(&difference);
             }

@@ -1,7 +1,7 @@
 //! The rules of document 01, as document 02 amends them, a second time, in ordinary Rust.
 //!
 //! Written from the papers alone, to be compared with the proved library.
-//! The order is the paper's: here lead, header structure, checks 2 to 13 and
+//! The order is the paper's: here lead, header structure, checks 2 to 13 and 28, and
 //! look-ups; then catalogue.rs, contents.rs (groups and texts), digest.rs (RFC 1321),
 //! book.rs, and reading.rs, where all checks come together; last writer.rs (document 02).
 //! Each check stands as `check(NUMBER, what must hold, place)`.
@@ -286,9 +286,17 @@ impl<'a> Structure<'a> {
     }
 }
 
-// ---- Checks 2 to 13 ----
+// ---- Checks 2 to 13 and 28 ----
 
-/// A package whose size, lead and structures are sound.
+/// Check 28 on the bytes from the signature's end to H, or to the package's end.
+fn check_gap(package: &[u8], signature_end: usize, header_start: usize) -> Checked<()> {
+    for place in signature_end..header_start.min(package.len()) {
+        check(28, package[place] == 0, place)?;
+    }
+    Ok(())
+}
+
+/// A package whose size, lead, structures and gap are sound.
 #[derive(Clone, Copy, Debug)]
 pub struct Opened<'a> {
     pub signature: Structure<'a>,
@@ -305,6 +313,7 @@ pub fn sound(package: &[u8]) -> Checked<Opened<'_>> {
     check_lead(&package[..LEAD_SIZE])?;
     let signature = Structure::read(package, LEAD_SIZE, Part::Signature)?;
     let header_start = signature.end().next_multiple_of(8);
+    check_gap(package, signature.end(), header_start)?;
     let header = Structure::read(package, header_start, Part::Header)?;
     Ok(Opened {
         signature,
@@ -327,7 +336,7 @@ impl<'a> Opened<'a> {
 
 // ---- Look-ups ----
 
-/// Checks 2 to 13, then 25: the record of that tag and type, and its structure.
+/// Checks 2 to 13 and 28, then 25: the record of that tag and type, and its structure.
 fn look_up(package: &[u8], structure: u32, tag: u32, ty: u32) -> Checked<(Structure<'_>, Record)> {
     let structure = sound(package)?.structure(structure);
     match structure.record(tag, ty) {

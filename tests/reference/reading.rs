@@ -1,4 +1,4 @@
-//! The reading: checks 1 to 24 and 27, the dose buffer in both forms, and what the
+//! The reading: checks 1 to 24, 27 and 28, the dose buffer in both forms, and what the
 //! program prints.
 
 use super::book::{self, Dose, MAX_BOOK};
@@ -10,7 +10,7 @@ use super::{check, contents, sound, Checked, Structure};
 fn doses(edition: u32, package: &[u8], room: usize) -> Checked<Vec<Dose>> {
     check(1, edition == 1 || edition == 2, 0)?;
 
-    // Checks 2 to 13.
+    // Checks 2 to 13 and 28.
     let opened = sound(package)?;
     let (signature, header) = (opened.signature, opened.header);
 

@@ -624,13 +624,14 @@ fn digest_covers_header_and_payload() {
     put(&mut moved, h + 16 + 16 * place + 8, record(1035));
     assert_eq!(doses(2, &moved), refused(27, 1004));
 
-    // Lead, gap and the rest of the signature don't count.
+    // The lead and the rest of the signature don't count; the gap has a check of its own.
     for at in [8, 9, 11, 80, 95] {
         assert_eq!(with_byte(&package, at, 0x40), right);
     }
     assert_eq!(h, 168);
     for at in 164..h {
-        assert_eq!(with_byte(&package, at, 0x40), right);
+        let stray = || refused(28, at as u32);
+        assert_eq!(with_byte(&package, at, 0x40), [stray(), stray()]);
     }
     let mut content = content;
     content.put(S, bin(1002, b"xyz"));
@@ -700,6 +701,68 @@ fn digest_after_18_before_19() {
     assert_eq!(answer(wrong_digest(&[weight])), refused(27, 1004));
     let package = wrong_digest(&[]).bytes();
     assert_eq!(read(2, &package, &mut []), refused(27, 1004));
+}
+
+// ---- The gap ----
+
+#[test]
+fn gap_at_both_editions() {
+    for size in 1..=8 {
+        let mut content = with_dose();
+        content.put(S, bin(1002, &vec![0x55; size]));
+        let package = content.bytes();
+        let (end, h) = (180 + size, if size <= 4 { 184 } else { 192 });
+        assert_eq!(content.package().h(), h);
+        for edition in [1, 2] {
+            assert_eq!(doses(edition, &package), Ok(vec![[27, 1250]]));
+            assert_eq!(doses(edition, &package[..end]), refused(5, h as u32));
+            assert_eq!(doses(edition, &package[..h]), refused(5, h as u32));
+        }
+        for at in end..h {
+            for bit in [0x01, 0x40, 0x80, 0xFF] {
+                let stray = || refused(28, at as u32);
+                assert_eq!(with_byte(&package, at, bit), [stray(), stray()]);
+                let cut = &package[..at + 1];
+                assert_eq!(with_byte(cut, at, bit), [stray(), stray()]);
+            }
+        }
+    }
+}
+
+#[test]
+fn gap_before_contents() {
+    let changes: [&dyn Fn(&mut Content); 14] = [
+        &|_| {},
+        &|content| content.remove(S, 1004),
+        &|content| content.remove(H, 20001),
+        &|content| content.remove(H, 20002),
+        &|content| content.put(H, bin(1000, &[0])),
+        &|content| content.size_off = 1,
+        &|content| content.put(H, texts(1081, 1).1),
+        &|content| content.put(H, strings(1021, 6, &["x"])),
+        &|content| content.digest_off = 1,
+        &|content| content.put(H, bin(20001, &[0; 4097])),
+        &|content| content.put(H, bin(20001, &[0x96])),
+        &|content| content.put(H, bin(20001, &[0x02])),
+        &|content| content.put(H, bin(20001, &[0x86, 0, 0, 0, 0, 0, 0])),
+        &|content| content.put(H, words(20002, &[1251])),
+    ];
+    for change in changes {
+        let mut content = with_dose();
+        change(&mut content);
+        content.gap[2] = 0x0A;
+        let package = content.bytes();
+        // Without 1004 the signature is 32 bytes shorter.
+        let place = 134 + 32 * (content.items[S].len() as u32 - 1);
+        for edition in [1, 2] {
+            assert_eq!(doses(edition, &package), refused(28, place));
+            assert_eq!(read(edition, &package, &mut []), refused(28, place));
+        }
+        assert_eq!(printed(&package), format!("refused 28 at {place}\n"));
+        for edition in [0, 3, u32::MAX] {
+            assert_eq!(doses(edition, &package), refused(1, 0));
+        }
+    }
 }
 
 // ---- The dose buffer ----

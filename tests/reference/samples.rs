@@ -1,4 +1,5 @@
-//! Document 01's bench samples and slips that belong to packages and look-ups.
+//! Document 01's bench samples and slips that belong to packages and look-ups, and samples
+//! of the gap (document 02).
 
 #[path = "../compare/content.rs"]
 #[allow(dead_code)]
@@ -333,4 +334,149 @@ fn index_walk() {
     assert_eq!(step(&package, 1, u32::MAX), stays(26, 0, u32::MAX));
     assert_eq!(step(&package, 0, 1), stays(26, 0, 1));
     assert_eq!(step(&package[..95], 0, 0), stays(3, 95, 0));
+}
+
+// ---- The gap ----
+
+/// A package whose signature ends so many bytes before 144, where its header starts.
+fn with_gap(length: usize) -> Vec<u8> {
+    let store = vec![0x55; 16 - length];
+    let signature = structure(&[[1002, 7, 0, store.len() as u32]], &store);
+    Package::of(signature, plain()).bytes()
+}
+
+/// The package with one byte changed.
+fn with_byte(package: &[u8], at: usize, byte: u8) -> Vec<u8> {
+    let mut package = package.to_vec();
+    package[at] = byte;
+    package
+}
+
+#[test]
+fn gaps() {
+    for length in 0..8 {
+        let right = with_gap(length);
+        let end = 144 - length;
+        assert_eq!(refusal(&right), Ok(()));
+        assert_eq!(sound(&right).unwrap().signature.end(), end);
+        assert_eq!(sound(&right).unwrap().header_start, 144);
+        for at in end..144 {
+            for byte in 1..=255 {
+                let mut package = with_byte(&right, at, byte);
+                assert_eq!(refusal(&package), refused(28, at));
+                package[at..144].fill(byte);
+                assert_eq!(refusal(&package), refused(28, at));
+            }
+        }
+        // Beside it are the signature's last byte and the header's magic.
+        for byte in 0..=255 {
+            assert_eq!(refusal(&with_byte(&right, end - 1, byte)), Ok(()));
+            if byte != 0x8E {
+                assert_eq!(refusal(&with_byte(&right, 144, byte)), refused(6, 144));
+            }
+        }
+    }
+    // Sums that are zero in 8 bits.
+    let mut package = with_gap(7);
+    package[138] = 0x80;
+    package[143] = 0x80;
+    assert_eq!(refusal(&package), refused(28, 138));
+    package[140] = 0x01;
+    package[139] = 0xFF;
+    assert_eq!(refusal(&package), refused(28, 138));
+    // A header that starts right behind the signature.
+    let mut package = with_gap(4);
+    package.drain(140..144);
+    assert_eq!(refusal(&package), refused(28, 140));
+}
+
+#[test]
+fn gaps_cut_off() {
+    for length in 0..8 {
+        let right = with_gap(length);
+        let end = 144 - length;
+        assert_eq!(refusal(&right[..end - 1]), refused(8, 108));
+        for cut in end..160 {
+            assert_eq!(refusal(&right[..cut]), refused(5, 144));
+            for at in end..144 {
+                let package = &with_byte(&right, at, 1)[..cut];
+                let known = if at < cut { (28, at) } else { (5, 144) };
+                assert_eq!(refusal(package), refused(known.0, known.1));
+            }
+        }
+    }
+}
+
+#[test]
+fn gap_between_signature_and_header() {
+    // The structures are alike; the first ends at 156, the second starts at 160.
+    let records = [[1000, 4, 0, 1], [1002, 7, 4, 8]];
+    let own = || structure(&records, &[0x55; 12]);
+    let right = Package::of(own(), own()).bytes();
+    let stray = |package: &[u8]| refusal(&with_byte(package, 158, 0x40));
+    assert_eq!(refusal(&right), Ok(()));
+    assert_eq!(stray(&right), refused(28, 158));
+    let (first, second) = (16, 32);
+    for (at, number, check, place) in [
+        (0, 0x8EAD_E802, 6, 0),
+        (4, 1, 6, 4),
+        (8, 0, 7, 8),
+        (8, 513, 7, 8),
+        (12, 1000, 8, 12),
+        (first + 4, 5, 9, first),
+        (second + 12, 0, 10, second),
+        (first + 8, 2, 11, first),
+        (first + 8, 12, 12, first),
+        (second, 1000, 13, second),
+    ] {
+        // The signature's checks go before, the header's come behind.
+        let mut package = right.clone();
+        put(&mut package, S + at, number);
+        assert_eq!(refusal(&package), refused(check, S + place));
+        assert_eq!(stray(&package), refused(check, S + place));
+        let mut package = right.clone();
+        put(&mut package, 160 + at, number);
+        assert_eq!(refusal(&package), refused(check, 160 + place));
+        assert_eq!(stray(&package), refused(28, 158));
+    }
+    assert_eq!(stray(&right[..160]), refused(28, 158));
+    assert_eq!(stray(&right[..175]), refused(28, 158));
+    assert_eq!(stray(&right[..right.len() - 1]), refused(28, 158));
+    // 2 and 4 go before as well.
+    assert_eq!(stray(&with_byte(&right, 4, 4)), refused(4, 4));
+    let mut large = right.clone();
+    large.resize(65_536, 9);
+    assert_eq!(stray(&large), refused(28, 158));
+    large.push(9);
+    assert_eq!(stray(&large), refused(2, 0));
+}
+
+#[test]
+fn gap_in_every_call() {
+    let names = Entry::new(1049, 8, &[b"glass\0"]);
+    let versions = Entry::new(1050, 8, &[b"1.0\0"]);
+    let right = with_header(maker::Structure::of(&[names, versions]));
+    assert_eq!(required_version(&right, b"glass"), b"1.0\0");
+    for at in 132..H {
+        let package = with_byte(&right, at, 0x0A);
+        for (structure, tag, ty) in [(0, 1000, 4), (1, 1050, 8), (2, 1050, 8), (1, 1, 1)] {
+            assert_eq!(find(&package, structure, tag, ty), refused(28, at));
+            for n in [0, 1] {
+                let element = find_element(&package, structure, tag, ty, n);
+                assert_eq!(element, refused(28, at));
+            }
+            let packed = (28 << 32) + at as u64;
+            assert_eq!(answer(&find(&package, structure, tag, ty)), packed);
+            for position in [0, 1, 9] {
+                let stays = Step {
+                    number: 28,
+                    place: at as u32,
+                    numbers: [0; 4],
+                    next: position,
+                };
+                assert_eq!(step(&package, structure, position), stays);
+            }
+        }
+        assert_eq!(required_version(&package, b"glass"), b"");
+    }
 }

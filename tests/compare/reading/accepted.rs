@@ -174,7 +174,7 @@ pub fn content(random: &mut Random, book: &Book) -> Content {
         items: [signature, header],
         size_off: 0,
         digest_off: 0,
-        gap: random.byte(),
+        gap: [0; 7],
         payload: random.bytes(payload),
         layout: random.pick(&[0, seed]),
     };

@@ -80,6 +80,13 @@ pub fn try_out() {
     assert!(!holds(&accepted, &read(27, 1004, 7), plain));
     assert!(!holds(&read(24, 2, 7), &read(27, 1004, 7), plain));
     assert!(!holds(&read(27, 1004, 7), &read(24, 2, 7), plain));
+    // Neither is a stray byte before the header.
+    assert!(holds(&read(28, 164, 7), &read(28, 164, 7), plain));
+    assert!(!holds(&read(28, 164, 7), &read(28, 165, 7), plain));
+    assert!(!holds(&read(28, 164, 7), &accepted, plain));
+    assert!(!holds(&accepted, &read(28, 164, 7), plain));
+    assert!(!holds(&read(28, 164, 7), &read(5, 168, 7), plain));
+    assert!(!holds(&read(5, 168, 7), &read(28, 164, 7), plain));
     assert!(holds(&read(22, 0, 7), &read(22, 0, 7), plain));
     assert!(!holds(&read(22, 0, 7), &read(22, 7, 7), plain));
     assert!(!holds(&read(21, 0, 7), &read(22, 0, 7), plain));

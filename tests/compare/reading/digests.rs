@@ -64,13 +64,13 @@ fn place_of(content: &Content, tag: u32) -> std::ops::Range<usize> {
 }
 
 /// One bit turned over in each byte: from H on the package is not accepted; book, weight and
-/// payload have no check before 27. What stands before H has no part in the digest.
+/// payload have no check before 27. What stands before H has no part in the digest; the gap
+/// has a check of its own.
 fn every_byte(desk: &mut Desk, random: &mut Random) {
     for _ in 0..8 {
         let (mut content, book) = with_doses(random);
         let payload = random.below(80);
         content.payload = random.bytes(payload);
-        content.gap = random.byte();
         // Data of its own for the book: other entries share none of it.
         content.layout = 0;
         let right = content.bytes();
@@ -98,11 +98,15 @@ fn every_byte(desk: &mut Desk, random: &mut Random) {
                 }
             }
         }
-        let free = (8..10).chain(80..S).chain(S + package.signature.size()..h);
-        for at in free {
+        for at in (8..10).chain(80..S) {
             let mut bytes = right.clone();
             bytes[at] ^= 1 << random.below(8);
             desk.case(random, &bytes, &book.known);
+        }
+        for at in package.gap_place() {
+            let mut bytes = right.clone();
+            bytes[at] ^= 1 << random.below(8);
+            desk.case(random, &bytes, &refused(28, at));
         }
     }
 }
@@ -162,7 +166,6 @@ fn payloads_like_padding(desk: &mut Desk, random: &mut Random) {
 fn places_of_h(desk: &mut Desk, random: &mut Random) {
     for size in 1..=72 {
         let (mut content, book) = with_doses(random);
-        content.gap = random.byte();
         content.put(SIGNATURE, bin(1002, &random.bytes(size)));
         desk.case(random, &content.bytes(), &book.known);
         content.digest_off = 1 << random.below(128);

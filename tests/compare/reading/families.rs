@@ -7,6 +7,7 @@ use super::books::{dose, length, right_dose, Book};
 use super::damage;
 use super::desk::{Desk, Outcome};
 use super::digests::digests;
+use super::gaps::{gaps, written_gaps};
 use super::locales::locales;
 use super::repeats::repeats;
 use super::written::written;
@@ -20,7 +21,7 @@ use crate::random::Random;
 use crate::real;
 
 /// All families with their names, in the order in which they run.
-pub const ALL: [(&str, fn(&mut Desk, &mut Random)); 20] = [
+pub const ALL: [(&str, fn(&mut Desk, &mut Random)); 22] = [
     ("accepted packages", accepted),
     ("accepted packages of many records", many_records),
     ("sizes of accepted packages", sizes),
@@ -41,6 +42,8 @@ pub const ALL: [(&str, fn(&mut Desk, &mut Random)); 20] = [
     ("digests of packages", digests),
     ("books that were written", written),
     ("repeated tags of accepted packages", repeats),
+    ("gaps of accepted packages", gaps),
+    ("gaps of written packages", written_gaps),
 ];
 
 #[rustfmt::skip]
@@ -224,7 +227,7 @@ fn pairs_of_damages(desk: &mut Desk, random: &mut Random) {
     }
 }
 
-/// Checks 2 to 13 go before those on contents.
+/// Checks 2 to 13 and 28 go before those on contents.
 fn damaged_twice(desk: &mut Desk, random: &mut Random) {
     for _ in 0..100 {
         let (mut content, _) = any(random);
@@ -241,7 +244,7 @@ fn damaged_twice(desk: &mut Desk, random: &mut Random) {
     }
 }
 
-/// Checks 4 and 6 to 13 on packages that are accepted otherwise.
+/// Checks 4, 6 to 13 and 28 on packages that are accepted otherwise.
 fn damaged_structures(desk: &mut Desk, random: &mut Random) {
     for _ in 0..12 {
         let (content, _) = any(random);
@@ -507,6 +510,9 @@ pub fn other_writers(desk: &mut Desk, random: &mut Random, data: &Path) {
             Err(_) => known.clone(),
         };
         desk.case(random, &turned, &other);
+        for (bytes, number, place) in real::gaps(&right) {
+            desk.case(random, &bytes, &refused(number, place));
+        }
         for round in 0..1500 {
             let mut bytes = right.clone();
             if round % 3 == 0 {

@@ -7,6 +7,7 @@ mod demand3;
 mod desk;
 mod digests;
 mod families;
+mod gaps;
 mod locales;
 mod repeats;
 mod written;

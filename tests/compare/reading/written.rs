@@ -28,7 +28,7 @@ pub fn written(desk: &mut Desk, random: &mut Random) {
 }
 
 /// What there is to write of a content.
-fn lists(random: &mut Random, content: &Content) -> Lists {
+pub fn lists(random: &mut Random, content: &Content) -> Lists {
     let entry = |item: &Item| Entry::new(item.tag, item.ty, item.count, item.data.clone());
     let mut entries = [SIGNATURE, HEADER].map(|structure| {
         let items = content.items[structure].iter();
@@ -42,7 +42,7 @@ fn lists(random: &mut Random, content: &Content) -> Lists {
 }
 
 /// The package that is written, which must be the known one.
-fn write(desk: &mut Desk, memory: &mut Memory, lists: &Lists) -> Vec<u8> {
+pub fn write(desk: &mut Desk, memory: &mut Memory, lists: &Lists) -> Vec<u8> {
     let bench = &mut *desk.bench;
     let mut writer = WritingDesk { bench, memory };
     writer.lend(&lists.lent());

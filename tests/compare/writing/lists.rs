@@ -60,6 +60,11 @@ impl Lists {
 
     /// The package that must be written, if the lists are right.
     pub fn package(&self) -> Vec<u8> {
+        self.parts().bytes()
+    }
+
+    /// The same in its parts.
+    pub fn parts(&self) -> Package {
         let header = structure(&self.entries[HEADER]);
         let mut signature = own(header.bytes());
         signature.extend(self.entries[SIGNATURE].iter().cloned());
@@ -67,7 +72,7 @@ impl Lists {
         package.lead = lead();
         package.lead[10..76].fill(0);
         package.lead[10..10 + self.name.len()].copy_from_slice(&self.name);
-        package.bytes()
+        package
     }
 
     /// The writer's own entries for these lists.

@@ -46,7 +46,7 @@ fn write(desk: &mut Desk, random: &mut Random, lists: &Lists) -> Vec<u8> {
     buffer
 }
 
-/// Every entry is found where its bytes are; no other is. So checks 2 to 13 pass.
+/// Every entry is found where its bytes are; no other is. So checks 2 to 13 and 28 pass.
 fn find_all(desk: &mut Desk, package: &[u8], lists: &Lists) {
     desk.bench.package(package);
     for (structure, entries) in lists.entries.iter().enumerate() {
