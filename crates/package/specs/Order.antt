@@ -28,7 +28,7 @@ StrayAt s place = FirstStray s (length s) (sectionEnd (signatureAt s)) (headerSt
 abbrev pub ZeroGap : List ℕ → Type 0
 ZeroGap s = (i : ℕ) → InGap (length s) (sectionEnd (signatureAt s)) (headerStart (signatureAt s)) i → getD s i 0 ≡ 0
 
--- 28 is the answer exactly there, whatever stands behind the gap, or nothing
+-- 28 at a place is the answer exactly where those pass and it is that of such a byte, whatever stands behind the gap
 abbrev pub GapRefused : Type 0
 GapRefused = (s : List ℕ) (place : ℕ) → (soundCheck s ≡ Fail 28 place) ↔ (SignaturePasses s × StrayAt s place)
 
