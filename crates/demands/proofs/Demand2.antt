@@ -7,12 +7,10 @@ use mathlib.Core.Bool.{true}
 use lib.ListN.{length, drop}
 use native.Mathlib.Omega.{arith}
 use borrow.Author.Tests.{leb-true, le-leb}
-use Rattle.format.specs.declared.section.Structure.the-variants.{Signature, Header}
+use Rattle.format.specs.declared.section.Structure.the-variants.{Header}
 use Rattle.format.specs.declared.verdict.Verdict.the-variants.{Pass}
-use Rattle.format.specs.Sizes.{packageLimit, leadSize}
-use Rattle.format.specs.Places.{sectionEnd}
+use Rattle.format.specs.Sizes.{leadSize}
 use Rattle.structure.specs.Structure.{sectionAt}
-use Rattle.format.specs.Places.{alignUp}
 use Rattle.package.specs.Package.{headerStart, signatureAt, headerAt}
 use Rattle.rules.specs.Rules.{rulesOver, rulesCheck}
 use Rattle.md5.specs.Md5.{digest}
@@ -23,7 +21,7 @@ use Rattle.reading.specs.Editions.{Edition, editionOf, batchTag, hasBatch}
 use Rattle.reading.specs.Reading.{editionCheck, bookIn, bookOf, needed, roomCheck, bookPart, openedCheck, checksAt}
 use Rattle.reading.specs.Reading.{readingCheck}
 use Rattle.reading.specs.Buffers.{roomIn}
-use Rattle.demands.specs.Lawful.{NumberIs, DataIs, FirstMultiple, LawfulLead, LawfulStructure, LawfulLines}
+use Rattle.demands.specs.Lawful.{NumberIs, DataIs, LawfulStructure, LawfulLines}
 use Rattle.demands.specs.Lawful.{LawfulGroups, LawfulTexts, LawfulBook, LawfulPackage}
 use Rattle.demands.specs.Demands.{Demand2}
 use Rattle.reading.proofs.AnswerLaws.{done}

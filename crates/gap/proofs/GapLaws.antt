@@ -9,7 +9,7 @@ use lib.Dec.{leb}
 use mir.Syntax.{w32}
 use mir.Val.{Fits}
 use native.Mathlib.Omega.{arith}
-use borrow.Author.Tests.{eq-eqb, ne-eqb, le-leb, lt-leb, leb-true, leb-false}
+use borrow.Author.Tests.{eq-eqb, ne-eqb, le-leb, lt-leb, leb-true}
 use Rattle.places.specs.Behind.{behind}
 use Rattle.places.proofs.BehindLaws.{near}
 use Rattle.format.specs.declared.verdict.Verdict.the-variants.{Pass, Fail}
@@ -60,13 +60,13 @@ module _ (s : List ℕ) (len start size first : ℕ) {from : ℕ} (g : size ≡ 
     pub place-fits : {here : ℕ} → here ≡ i → Fits w32 len → Fits w32 here
     place-fits p f = let a = within in let b = f .fits in record { fits = omega arith }
 
+    unrolled : runFrom (zeroCheck s) size first ≡ both (zeroCheck s i) (runFrom (zeroCheck s) (left - 1) (i + 1))
+    unrolled =
+        let k : left ≡ suc (left - 1) = omega arith in
+        inv .same ∙ ap (λ (n : ℕ). runFrom (zeroCheck s) n i) k ∙ run.first (zeroCheck s) (left - 1) i
+
     -- b is byte i
     module _ {b : ℕ} (p : b ≡ getD s i 0) where
-      unrolled : runFrom (zeroCheck s) size first ≡ both (zeroCheck s i) (runFrom (zeroCheck s) (left - 1) (i + 1))
-      unrolled =
-          let k : left ≡ suc (left - 1) = omega arith in
-          inv .same ∙ ap (λ (n : ℕ). runFrom (zeroCheck s) n i) k ∙ run.first (zeroCheck s) (left - 1) i
-
       pub zero-turn : {next : ℕ} → next ≡ behind i 1 → Fits w32 len → b ≡ 0 → Left s size first (left - 1) next
       zero-turn q f k =
           let a = within in

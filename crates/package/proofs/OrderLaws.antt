@@ -7,7 +7,7 @@ use lib.ListN.{length}
 use native.Mathlib.Omega.{arith}
 use borrow.Author.Tests.{lt-leb}
 use Rattle.format.specs.declared.section.Structure.the-variants.{Header}
-use Rattle.format.specs.declared.verdict.Verdict.the-variants.{Pass, Fail}
+use Rattle.format.specs.declared.verdict.Verdict.the-variants.{Fail}
 use Rattle.format.specs.Sizes.{headerRecordSize}
 use Rattle.format.specs.Verdicts.{both}
 use Rattle.format.proofs.VerdictLaws.{stopped, both-pass, both-fail}
