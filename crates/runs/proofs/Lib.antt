@@ -1,0 +1,6 @@
+pub mod OrderLaws
+pub mod KindLaws
+pub mod FrontLaws
+pub mod CommonLaws
+pub mod ValueLaws
+pub mod MetLaws

@@ -1,0 +1,3 @@
+pub mod Version
+pub mod Steps
+pub mod Theorems
