@@ -32,14 +32,26 @@ before-lower b h k =
 pub lower-here : (b : ℕ) → 97 ≤ b → b ≤ 122 → 1 ≡ kind b
 unfolding kind isDigit isLetter
 lower-here b h k =
-    rw (le-leb 48 b (omega arith), lt-leb b 57 (omega arith), le-leb 65 b (omega arith), lt-leb b 90 (omega arith),
-    le-leb 97 b h, le-leb b 122 k)
+    rw (
+      le-leb 48 b (omega arith),
+      lt-leb b 57 (omega arith),
+      le-leb 65 b (omega arith),
+      lt-leb b 90 (omega arith),
+      le-leb 97 b h,
+      le-leb b 122 k,
+    )
 
 pub behind : (b : ℕ) → 122 < b → 0 ≡ kind b
 unfolding kind isDigit isLetter
 behind b h =
-    rw (le-leb 48 b (omega arith), lt-leb b 57 (omega arith), le-leb 65 b (omega arith), lt-leb b 90 (omega arith),
-    le-leb 97 b (omega arith), lt-leb b 122 h)
+    rw (
+      le-leb 48 b (omega arith),
+      lt-leb b 57 (omega arith),
+      le-leb 65 b (omega arith),
+      lt-leb b 90 (omega arith),
+      le-leb 97 b (omega arith),
+      lt-leb b 122 h,
+    )
 
 -- a byte of a kind that doesn't separate is not zero
 pub positive : (k b : ℕ) → 1 ≤ k → ofKind k b ≡ true → 0 < b

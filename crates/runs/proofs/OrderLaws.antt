@@ -156,4 +156,3 @@ through f by order = record {
   chain = λ x y z. order .chain (f x) (f y) (f z);
   alike = λ x y z. order .alike (f x) (f y) (f z);
 }
-

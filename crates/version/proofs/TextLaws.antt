@@ -117,9 +117,10 @@ module _ (k : ℕ) (s t : List ℕ) (p q : ℕ) {r : Met}
 
   pub met-within : {m n : ℕ} → p ≤ length s → q ≤ length t → r ≡ met-is.Same m n → (p + m ≤ length s) × (q + n ≤ length t)
   met-within h l d =
-      let w = alike d in
-      (omega (arith, front-fits (ofKind k) (drop p s), length-drop p s),
-      omega (arith, front-fits (ofKind k) (drop q t), length-drop q t))
+      let w = alike d in (
+        omega (arith, front-fits (ofKind k) (drop p s), length-drop p s),
+        omega (arith, front-fits (ofKind k) (drop q t), length-drop q t),
+      )
 
 -- one turn: the texts from i and j on, with the next runs at p and q
 module _ (s t : List ℕ) (i j p q k l : ℕ) {o : Order} (inv : o ≡ byText (drop i s) (drop j t)) (x : Skips s i p) (y : Skips t j q)

@@ -58,10 +58,12 @@ loop-again c =
     let at-loop = c .before .before .before .before in
     let start = at-loop .before .before .before in
     let a = there (start .args .a .now) (at-loop .loop .i) (c .before .before .before .byte-of .ensures) (c .before .if1 .left) in
-    let b = there (start .args .b .now) (at-loop .loop .i) (c .before .before .byte-of2 .ensures) (c .if3 .left) in
-    (omega arith, omega arith,
-    laws.longer-turn (start .args .a .now) (start .args .b .now) (at-loop .loop .i) (at-loop .loop .inv .2)
-    (c .before .before .before .byte-of .ensures) (c .before .before .byte-of2 .ensures) (c .before .if1 .left) (c .if3 .left))
+    let b = there (start .args .b .now) (at-loop .loop .i) (c .before .before .byte-of2 .ensures) (c .if3 .left) in (
+      omega arith,
+      omega arith,
+      laws.longer-turn (start .args .a .now) (start .args .b .now) (at-loop .loop .i) (at-loop .loop .inv .2)
+          (c .before .before .before .byte-of .ensures) (c .before .before .byte-of2 .ensures) (c .before .if1 .left) (c .if3 .left),
+    )
 
 pub longer-spec : {M : Type 1} → statement M
 longer-spec =

@@ -40,15 +40,21 @@ add-i : tie.Need-add-i
 add-i c =
     let at-runs = c .before .before .before in
     let start = at-runs .before .before .before .before .before in
-    omega (arith, laws.met-within (start .args .k) (start .args .left .now) (start .args .right .now) (start .args .p)
-    (start .args .q) (at-runs .first-runs .ensures) (start .pre .0) (start .pre .1) (c .before .both .given .1))
+    omega (
+      arith,
+      laws.met-within (start .args .k) (start .args .left .now) (start .args .right .now) (start .args .p)
+          (start .args .q) (at-runs .first-runs .ensures) (start .pre .0) (start .pre .1) (c .before .both .given .1),
+    )
 
 add-j : tie.Need-add-j
 add-j c =
     let at-runs = c .before .before .before in
     let start = at-runs .before .before .before .before .before in
-    omega (arith, laws.met-within (start .args .k) (start .args .left .now) (start .args .right .now) (start .args .p)
-    (start .args .q) (at-runs .first-runs .ensures) (start .pre .0) (start .pre .1) (c .before .both .given .1))
+    omega (
+      arith,
+      laws.met-within (start .args .k) (start .args .left .now) (start .args .right .now) (start .args .p)
+          (start .args .q) (at-runs .first-runs .ensures) (start .pre .0) (start .pre .1) (c .before .both .given .1),
+    )
 
 returns : tie.Need-returns
 returns c = search (laws.met-older, needs)
