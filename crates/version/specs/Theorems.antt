@@ -33,10 +33,10 @@ pub record Longest (P : ℕ → Type 0) (bs rest : List ℕ) : Type 0 where
 
 -- a text as its longest runs of digits or of letters, in order, with what only separates before, between and behind them
 pub data Parted : List ℕ → List Run → Type 0 where
-  none : {sep : List ℕ} → Every Separator sep → Parted sep []
-  digits : {sep ds s : List ℕ} {rs : List Run} → Every Separator sep → Longest Digit ds s → Parted s rs
+  none : (sep : List ℕ) → Every Separator sep → Parted sep []
+  digits : (sep ds s : List ℕ) {rs : List Run} → Every Separator sep → Longest Digit ds s → Parted s rs
       → Parted (sep ++ (ds ++ s)) (run digit ds ∷ rs)
-  letters : {sep bs s : List ℕ} {rs : List Run} → Every Separator sep → Longest Letter bs s → Parted s rs
+  letters : (sep bs s : List ℕ) {rs : List Run} → Every Separator sep → Longest Letter bs s → Parted s rs
       → Parted (sep ++ (bs ++ s)) (run letter bs ∷ rs)
 
 -- A text is parted in one way, into its runs.
@@ -60,13 +60,13 @@ pub data Paired {A : Type 0} (Alike : A → A → Type 0) : List A → List A �
 
 -- runs that are the same: digits of one value, letters of the same bytes
 pub data AlikeRuns : Run → Run → Type 0 where
-  values : {ds es : List ℕ} → value ds ≡ value es → AlikeRuns (run digit ds) (run digit es)
+  values : (ds es : List ℕ) → value ds ≡ value es → AlikeRuns (run digit ds) (run digit es)
   bytes : {bs : List ℕ} → AlikeRuns (run letter bs) (run letter bs)
 
 -- a run that is lower: letters than digits, digits of the lower value, letters by bytes, a prefix first
 pub data LowerRun : Run → Run → Type 0 where
   kinds : {bs ds : List ℕ} → LowerRun (run letter bs) (run digit ds)
-  values : {ds es : List ℕ} → value ds < value es → LowerRun (run digit ds) (run digit es)
+  values : (ds es : List ℕ) → value ds < value es → LowerRun (run digit ds) (run digit es)
   bytes : {bs cs : List ℕ} → Before (λ (a b : ℕ). a ≡ b) (λ (a b : ℕ). a < b) bs cs → LowerRun (run letter bs) (run letter cs)
 
 -- Texts by their runs, run by run: a missing run is lowest.
