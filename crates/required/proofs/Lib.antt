@@ -1,3 +1,4 @@
-pub mod VersionLaws
 pub mod MatchLaws
+pub mod VersionLaws
+pub mod RequirementLaws
 pub mod VersionTheorems

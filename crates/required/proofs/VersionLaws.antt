@@ -1,4 +1,5 @@
--- The search for a required version, one law for each way through a turn.
+-- The search for a required name, one law for each way through a turn (ends, turn, spent); what is found among a header's
+-- entries (no-names to number-missing), by the package as it was opened (refused-as, required-as); the version (version-here).
 use Prim.Native.Nat.{ℕ, suc, _+_, _-_, _≤_, _<_}
 use mathlib.Core.Path.{_≡_, refl, sym, ap, _∙_}
 use mathlib.Core.List.{List}
@@ -25,32 +26,39 @@ use Rattle.index.specs.Lookup.{extentTo, findIn}
 use Rattle.structure.specs.Sound.{SoundEntry}
 use Rattle.structure.proofs.SoundLaws.{found-type}
 use Rattle.lookups.specs.declared.Sought.{Sought}
-use Rattle.lookups.specs.declared.Sought.the-variants.{Here, Refused}
+use Rattle.lookups.specs.declared.Sought.the-variants as sought
 use Rattle.elements.specs.Elements.{elementOf, elementIn}
 use Rattle.package.specs.declared.Opened.{Opened}
 use Rattle.package.specs.declared.Opened.the-variants.{Sound, Unsound}
 use Rattle.package.specs.Package.{headerAt, soundCheck, opened}
-use Rattle.required.specs.Version.{textOf, versionFrom, versionIn, soughtVersion, requireName, requireVersion, stringArray}
+use Rattle.required.specs.declared.Named.{Named}
+use Rattle.required.specs.declared.Named.the-variants.{Number, Nowhere}
+use Rattle.required.specs.declared.Requirement.{Requirement}
+use Rattle.required.specs.declared.Requirement.the-variants.{Beside, Refused}
+use Rattle.required.specs.Version.{textOf, numberFrom, requirementIn, requirementFor, soughtVersion, requireName, requireVersion, stringArray}
 use Rattle.package.proofs.OpenLaws.{opened-sound, opened-unsound}
 use Rattle.lookups.proofs.SeekLaws.{header-found}
 use Rattle.elements.proofs.PartLaws.{in-of}
+use Rattle.required.proofs.MatchLaws.{Arrays, arrays-of}
 
-module _ (s name : List ℕ) (names versions : Entry) where
-  step : (n k : ℕ) → versionFrom s name names versions (suc n) k
-      ≡ cond (sameBytes (textOf s (elementOf s names k)) name) (Here (elementOf s versions k)) (versionFrom s name names versions n (k + 1))
-  unfolding versionFrom
+module _ (s name : List ℕ) (names : Entry) where
+  step : (n k : ℕ) → numberFrom s name names (suc n) k
+      ≡ cond (sameBytes (textOf s (elementOf s names k)) name) (Number k) (numberFrom s name names n (k + 1))
+  unfolding numberFrom
   step n k = refl
 
-  unrolled : (n k : ℕ) → k < n → versionFrom s name names versions (n - k) k
-      ≡ cond (sameBytes (textOf s (elementOf s names k)) name) (Here (elementOf s versions k))
-      (versionFrom s name names versions (n - (k + 1)) (k + 1))
+  unrolled : (n k : ℕ) → k < n → numberFrom s name names (n - k) k
+      ≡ cond (sameBytes (textOf s (elementOf s names k)) name) (Number k) (numberFrom s name names (n - (k + 1)) (k + 1))
   unrolled n k l =
       let e : n - k ≡ suc (n - (k + 1)) = omega arith in
       rw e (step (n - (k + 1)) k)
 
-  pub none : (n k : ℕ) → n ≡ 0 → Refused 25 0 ≡ versionFrom s name names versions n k
-  unfolding versionFrom
+  none : (n k : ℕ) → n ≡ 0 → Nowhere ≡ numberFrom s name names n k
+  unfolding numberFrom
   none n k h = rw h
+
+  pub spent : (k : ℕ) {v : Named} → v ≡ numberFrom s name names (names .count - k) k → names .count ≤ k → Nowhere ≡ v
+  spent k w l = none (names .count - k) k (omega arith) ∙ sym w
 
 -- string k of a sound string array starts at a place
 module _ (s : List ℕ) (names : Entry) (sound : SoundEntry s packageLimit names) (strings : elementSize (names .ty) ≡ ToZero)
@@ -96,58 +104,52 @@ module _ (s : List ℕ) (names : Entry) (sound : SoundEntry s packageLimit names
     same-text : {t : List ℕ} → t ≡ take (n - 1) (drop at s) → t ≡ textOf s (elementOf s names k)
     same-text h = h ∙ rw (q, p, names-end) (sym text)
 
-    module _ (name : List ℕ) (versions : Entry) {v : Sought}
-        (w : v ≡ versionFrom s name names versions (names .count - k) k)
+    module _ (name : List ℕ) {v : Named} (w : v ≡ numberFrom s name names (names .count - k) k)
         {t : List ℕ} (h : t ≡ take (n - 1) (drop at s)) {b : Bool} (j : b ≡ sameBytes t name) where
-      pub ends : {entry : Entry} → b ≡ true → SoundEntry s packageLimit versions → entry ≡ elementIn s versions k
-          → Here entry ≡ v
-      ends f u g′ =
-          let i = u .inside in
-          let g = in-of s versions k (omega arith) g′ in
-          sym (w ∙ unrolled s name names versions (names .count) k l
-          ∙ rw (sym (ap (λ (x : List ℕ). sameBytes x name) (same-text h)) ∙ sym j ∙ f, g))
-
-      pub turn : b ≡ false → v ≡ versionFrom s name names versions (names .count - (k + 1)) (k + 1)
-      turn f =
-          w ∙ unrolled s name names versions (names .count) k l
+      tested : {a : Bool} → b ≡ a → v ≡ cond a (Number k) (numberFrom s name names (names .count - (k + 1)) (k + 1))
+      tested f =
+          w ∙ unrolled s name names (names .count) k l
           ∙ rw (sym (ap (λ (x : List ℕ). sameBytes x name) (same-text h)) ∙ sym j ∙ f)
 
-pub spent : (s name : List ℕ) (names versions : Entry) (k : ℕ) {v : Sought}
-    → v ≡ versionFrom s name names versions (names .count - k) k → names .count ≤ k → Refused 25 0 ≡ v
-spent s name names versions k w l = none s name names versions (names .count - k) k (omega arith) ∙ sym w
+      pub ends : b ≡ true → Number k ≡ v
+      ends f = sym (tested f)
+
+      pub turn : b ≡ false → v ≡ numberFrom s name names (names .count - (k + 1)) (k + 1)
+      turn f = tested f
 
 -- among a header's entries, in the shape of what is known where the search returns
 module _ (s name : List ℕ) (header : Section) {f : Found} (p : f ≡ findIn s header requireName stringArray) where
-  pub no-names : f ≡ Nothing → Refused 25 0 ≡ versionIn s name header
+  pub no-names : f ≡ Nothing → Refused 25 0 ≡ requirementIn s name header
   no-names h = rw (sym p ∙ h)
 
-  module _ {names : Entry} (h : f ≡ At names) {g : Found} (q : g ≡ findIn s header requireVersion stringArray) where
-    pub no-versions : g ≡ Nothing → Refused 25 0 ≡ versionIn s name header
-    no-versions k = rw (sym p ∙ h, sym q ∙ k)
+  module _ {names : Entry} (h : f ≡ At names) where
+    pub names-sound : soundCheck s ≡ Pass → header ≡ headerAt s → SoundEntry s packageLimit names
+    names-sound c e = header-found s requireName stringArray names c (rw e at (sym p ∙ h))
 
-    module _ {versions : Entry} (k : g ≡ At versions) where
-      pub counts-differ : (names .count ≡ versions .count → ⊥) → Refused 25 0 ≡ versionIn s name header
-      counts-differ d = rw (sym p ∙ h, sym q ∙ k, ne-eqb (names .count) (versions .count) d)
+    pub names-strings : elementSize (names .ty) ≡ ToZero
+    unfolding elementSize
+    names-strings = rw (found-type s header requireName stringArray names (sym p ∙ h))
 
-      pub counts-same : {r : Sought} → names .count ≡ versions .count → r ≡ versionFrom s name names versions (names .count) 0
-          → r ≡ versionIn s name header
-      counts-same e j = rw (sym p ∙ h, sym q ∙ k, eq-eqb (names .count) (versions .count) e) j
+    module _ {g : Found} (q : g ≡ findIn s header requireVersion stringArray) where
+      pub no-versions : g ≡ Nothing → Refused 25 0 ≡ requirementIn s name header
+      no-versions k = rw (sym p ∙ h, sym q ∙ k)
 
-      pub names-sound : soundCheck s ≡ Pass → header ≡ headerAt s → SoundEntry s packageLimit names
-      names-sound c e = header-found s requireName stringArray names c (rw e at (sym p ∙ h))
+      module _ {versions : Entry} (k : g ≡ At versions) where
+        pub counts-differ : (names .count ≡ versions .count → ⊥) → Refused 25 0 ≡ requirementIn s name header
+        counts-differ d = rw (sym p ∙ h, sym q ∙ k, ne-eqb (names .count) (versions .count) d)
 
-      pub versions-sound : soundCheck s ≡ Pass → header ≡ headerAt s → SoundEntry s packageLimit versions
-      versions-sound c e = header-found s requireVersion stringArray versions c (rw e at (sym q ∙ k))
+        module _ (e : names .count ≡ versions .count) {r : Named} (j : r ≡ numberFrom s name names (names .count) 0) where
+          pub number-found : {n : ℕ} → r ≡ Number n → Beside header versions n ≡ requirementIn s name header
+          number-found d = rw (sym p ∙ h, sym q ∙ k, eq-eqb (names .count) (versions .count) e, sym j ∙ d)
 
-      pub names-strings : elementSize (names .ty) ≡ ToZero
-      unfolding elementSize
-      names-strings = rw (found-type s header requireName stringArray names (sym p ∙ h))
+          pub number-missing : r ≡ Nowhere → Refused 25 0 ≡ requirementIn s name header
+          number-missing d = rw (sym p ∙ h, sym q ∙ k, eq-eqb (names .count) (versions .count) e, sym j ∙ d)
 
--- in the shape of what is known where the version is sought: r is the package as it was opened
+-- in the shape of what is known where a requirement is sought: r is the package as it was opened
 module _ (s name : List ℕ) {r : Opened} (p : r ≡ opened s) where
-  pub version-refused : {number place : ℕ} → r ≡ Unsound number place → Refused number place ≡ soughtVersion s name
-  unfolding soughtVersion
-  version-refused h = rw (opened-unsound s (sym p ∙ h))
+  pub refused-as : {number place : ℕ} → r ≡ Unsound number place → Refused number place ≡ requirementFor s name
+  unfolding requirementFor
+  refused-as h = rw (opened-unsound s (sym p ∙ h))
 
   module _ {signature header : Section} (h : r ≡ Sound signature header) where
     pub sound : soundCheck s ≡ Pass
@@ -156,6 +158,22 @@ module _ (s name : List ℕ) {r : Opened} (p : r ≡ opened s) where
     pub header-here : header ≡ headerAt s
     header-here = sym (opened-sound s (sym p ∙ h) .2)
 
-    pub version-sought : {v : Sought} → v ≡ versionIn s name header → v ≡ soughtVersion s name
+    pub required-as : {v : Requirement} → v ≡ requirementIn s name header → v ≡ requirementFor s name
+    unfolding requirementFor
+    required-as k = rw sound (rw header-here at k)
+
+-- the version of a requirement
+module _ (s name : List ℕ) {r : Requirement} (p : r ≡ requirementFor s name) where
+  pub version-refused : {number place : ℕ} → r ≡ Refused number place → sought.Refused number place ≡ soughtVersion s name
+  unfolding soughtVersion
+  version-refused h = rw (sym p ∙ h)
+
+  module _ {header : Section} {versions : Entry} {k : ℕ} (h : r ≡ Beside header versions k) where
+    pub versions-sound : SoundEntry s packageLimit versions
+    versions-sound = let a = arrays-of s name (sym p ∙ h) in header-found s 1050 8 versions (a .sound) (a .versioned)
+
+    pub version-here : {entry : Entry} → entry ≡ elementIn s versions k → sought.Here entry ≡ soughtVersion s name
     unfolding soughtVersion
-    version-sought k = rw sound (rw header-here at k)
+    version-here e =
+        let i = versions-sound .inside in
+        rw (sym p ∙ h, in-of s versions k (omega arith) e)

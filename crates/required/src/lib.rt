@@ -8,7 +8,7 @@ ghost use Rattle.structure.specs.Sound.{SoundEntry};
 ghost use Rattle.entries.specs.declared.types.ElementSize.the-variants.{ToZero};
 ghost use Rattle.entries.specs.Types.{elementSize};
 ghost use Rattle.package.specs.Package.{soundCheck, headerAt};
-ghost use Rattle.required.specs.Version.{versionFrom, versionIn, soughtVersion, requiredVersion};
+ghost use Rattle.required.specs.Version.{numberFrom, requirementIn, requirementFor, soughtVersion, requiredVersion};
 use elements::element;
 use format::Section;
 use index::Entry;
@@ -29,11 +29,23 @@ impl Require {
     pub const STRING_ARRAY: u32 = 8;
 }
 
-// The version beside the first of the names that is the lent one.
-fn beside(pkg: &[u8], name: &[u8], names: Entry, versions: Entry) -> Sought
-    requires { ⌜ (SoundEntry (now pkg) packageLimit names) × (SoundEntry (now pkg) packageLimit versions)
-        × (elementSize (names .ty) ≡ ToZero) ⌝ }
-    ensures { λ r. ⌜ r ≡ versionFrom (now (pkg .entry)) (now (name .entry)) names versions (names .count) 0 ⌝ }
+// A name among the required ones: its number, where it is one of them.
+enum Named {
+    Number(u32),
+    Nowhere,
+}
+
+// What is required for a name: the header and the entry of the versions, with the name's number, which its version has too;
+// or the first check that failed and its place.
+pub enum Requirement {
+    Beside(Section, Entry, u32),
+    Refused(u32, u32),
+}
+
+// The number of the first of the names that is the lent one.
+fn number_of(pkg: &[u8], name: &[u8], names: Entry) -> Named
+    requires { ⌜ (SoundEntry (now pkg) packageLimit names) × (elementSize (names .ty) ≡ ToZero) ⌝ }
+    ensures { λ r. ⌜ r ≡ numberFrom (now (pkg .entry)) (now (name .entry)) names (names .count) 0 ⌝ }
 {
     let end = names.at.behind(names.extent);
     let mut at = names.at;
@@ -43,41 +55,56 @@ fn beside(pkg: &[u8], name: &[u8], names: Entry, versions: Entry) -> Sought
         let extent = index::extent_to(at, run);
         let text = at.part(pkg, extent - 1);
         if be::same(text, name) {
-            return Sought::Here(element(pkg, versions, k));
+            return Named::Number(k);
         }
         at = at.behind(extent);
         k += 1;
     }
-    Sought::Refused(25, 0)
+    Named::Nowhere
 }
 
-// The version among a header's entries, where names and versions are string arrays of one count.
-fn among(pkg: &[u8], name: &[u8], header: Section) -> Sought
+// The name among a header's entries, where names and versions are string arrays of one count.
+fn among(pkg: &[u8], name: &[u8], header: Section) -> Requirement
     requires { ⌜ (soundCheck (now pkg) ≡ Pass) × (header ≡ headerAt (now pkg)) ⌝ }
-    ensures { λ r. ⌜ r ≡ versionIn (now (pkg .entry)) (now (name .entry)) header ⌝ }
+    ensures { λ r. ⌜ r ≡ requirementIn (now (pkg .entry)) (now (name .entry)) header ⌝ }
 {
     let first = index::find(pkg, header, Require::NAME, Require::STRING_ARRAY);
     let Found::At(names) = first else {
-        return Sought::Refused(25, 0);
+        return Requirement::Refused(25, 0);
     };
     let second = index::find(pkg, header, Require::VERSION, Require::STRING_ARRAY);
     let Found::At(versions) = second else {
-        return Sought::Refused(25, 0);
+        return Requirement::Refused(25, 0);
     };
     if names.count != versions.count {
-        return Sought::Refused(25, 0);
+        return Requirement::Refused(25, 0);
     }
-    beside(pkg, name, names, versions)
+    let named = number_of(pkg, name, names);
+    match named {
+        Named::Number(k) => Requirement::Beside(header, versions, k),
+        Named::Nowhere => Requirement::Refused(25, 0),
+    }
 }
 
-// Where the version required for a name stands: the string of tag 1050 beside the first string of tag 1049 that is the name.
-fn seek_version(pkg: &[u8], name: &[u8]) -> Sought
-    ensures { λ r. ⌜ r ≡ soughtVersion (now (pkg .entry)) (now (name .entry)) ⌝ }
+// What is required for a name: the first string of tag 1049 that is the name gives the number of its version in tag 1050.
+pub fn seek(pkg: &[u8], name: &[u8]) -> Requirement
+    ensures { λ r. ⌜ r ≡ requirementFor (now (pkg .entry)) (now (name .entry)) ⌝ }
 {
     let found = open(pkg);
     match found {
-        Opened::Unsound(number, place) => Sought::Refused(number, place),
+        Opened::Unsound(number, place) => Requirement::Refused(number, place),
         Opened::Sound(_, header) => among(pkg, name, header),
+    }
+}
+
+// Where the version required for a name stands.
+fn seek_version(pkg: &[u8], name: &[u8]) -> Sought
+    ensures { λ r. ⌜ r ≡ soughtVersion (now (pkg .entry)) (now (name .entry)) ⌝ }
+{
+    let wanted = seek(pkg, name);
+    match wanted {
+        Requirement::Beside(_, versions, k) => Sought::Here(element(pkg, versions, k)),
+        Requirement::Refused(number, place) => Sought::Refused(number, place),
     }
 }
 

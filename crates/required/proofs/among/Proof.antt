@@ -1,4 +1,5 @@
--- Names and versions are both there, with one count, or nothing is found. Assumes nothing.
+-- Names and versions are both there, with one count, and the name is one of them, or nothing is found.
+-- Assumes nothing.
 use Rattle.required.proofs.VersionLaws as laws
 use borrow.Author.Needs.{needs}
 use Rattle.required.proofs.among.Statement.{statement}
@@ -31,11 +32,20 @@ returns-2 c = search laws.no-versions
 returns-3 : tie.Need-returns-3
 returns-3 c = search laws.counts-differ
 
-beside-requires : tie.Need-beside-requires
-beside-requires c κs = (search laws.names-sound, search laws.versions-sound, search laws.names-strings)
+number-of-requires : tie.Need-number-of-requires
+number-of-requires c κs = (search laws.names-sound, search laws.names-strings)
+
+enum-known-named : tie.Need-enum-known-named
+enum-known-named c = search needs
+
+enum-told-3 : tie.Need-enum-told-3
+enum-told-3 c = search needs
 
 returns-4 : tie.Need-returns-4
-returns-4 c = search laws.counts-same
+returns-4 c = search laws.number-found
+
+returns-5 : tie.Need-returns-5
+returns-5 c = search laws.number-missing
 
 pub among-spec : {M : Type 1} → statement M
 among-spec =
@@ -50,5 +60,8 @@ among-spec =
     enum-told-2
     returns-2
     returns-3
-    beside-requires
-    returns-4)
+    number-of-requires
+    enum-known-named
+    enum-told-3
+    returns-4
+    returns-5)

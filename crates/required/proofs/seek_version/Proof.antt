@@ -1,28 +1,35 @@
--- By the package as it was opened. Assumes nothing.
+-- By what is required for the name.
+-- Assumes nothing.
 use Rattle.required.proofs.VersionLaws as laws
 use borrow.Author.Needs.{needs}
 use Rattle.required.proofs.seek_version.Statement.{statement}
 use Rattle.required.proofs.seek_version.Tie as tie
 
-open-requires : tie.Need-open-requires
-open-requires c κs = search needs
+seek-requires : tie.Need-seek-requires
+seek-requires c κs = search needs
 
-enum-known-found : tie.Need-enum-known-found
-enum-known-found c = search needs
+enum-known-wanted : tie.Need-enum-known-wanted
+enum-known-wanted c = search needs
 
-enum-known-found-2 : tie.Need-enum-known-found-2
-enum-known-found-2 c = search needs
+element-requires : tie.Need-element-requires
+element-requires c κs = search needs
 
-among-requires : tie.Need-among-requires
-among-requires c κs = (search laws.sound, search laws.header-here)
+enum-known-wanted-2 : tie.Need-enum-known-wanted-2
+enum-known-wanted-2 c = search needs
 
 returns : tie.Need-returns
-returns c = search laws.version-refused
+returns c = search laws.version-here
 
 returns-2 : tie.Need-returns-2
-returns-2 c = search laws.version-sought
+returns-2 c = search laws.version-refused
 
 pub seek-version-spec : {M : Type 1} → statement M
 seek-version-spec =
     tie.close
-    (tie.spec open-requires enum-known-found enum-known-found-2 among-requires returns returns-2)
+    (tie.spec
+    seek-requires
+    enum-known-wanted
+    element-requires
+    enum-known-wanted-2
+    returns
+    returns-2)

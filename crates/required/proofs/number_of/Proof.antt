@@ -5,18 +5,18 @@ use mathlib.Core.Path.{_≡_, refl}
 use native.Mathlib.Nat.{sub-zero}
 use Rattle.strings.specs.declared.Ending.the-variants.{Ends}
 use Rattle.strings.specs.Strings.{stringsFrom}
-use Rattle.required.specs.Version.{versionFrom}
+use Rattle.required.specs.Version.{numberFrom}
 use Rattle.required.proofs.VersionLaws as laws
-use Rattle.required.proofs.beside.Statement.{statement}
-use Rattle.required.proofs.beside.Tie as tie
+use Rattle.required.proofs.number_of.Statement.{statement}
+use Rattle.required.proofs.number_of.Tie as tie
 
 abbrev Inv-loop : tie.InvT-loop
-Inv-loop pkg name names versions end at₀ k₀ at k = (k ≤ names .count)
+Inv-loop pkg name names end at₀ k₀ at k = (k ≤ names .count)
     × (stringsFrom pkg (names .extent) (names .at .0) k ≡ Ends (at .0))
-    × (versionFrom pkg name names versions (names .count) 0 ≡ versionFrom pkg name names versions (names .count - k) k)
+    × (numberFrom pkg name names (names .count) 0 ≡ numberFrom pkg name names (names .count - k) k)
 
 abbrev μ-loop : tie.MeasureT-loop
-μ-loop pkg name names versions end at₀ k₀ at k = names .count - k
+μ-loop pkg name names end at₀ k₀ at k = names .count - k
 
 behind-requires : tie.Need-behind-requires Inv-loop μ-loop
 behind-requires c κs = search needs
@@ -40,9 +40,6 @@ part-requires c κs = search needs
 same-requires : tie.Need-same-requires Inv-loop μ-loop
 same-requires c κs = search needs
 
-element-requires : tie.Need-element-requires Inv-loop μ-loop
-element-requires c κs = search needs
-
 returns : tie.Need-returns Inv-loop μ-loop
 returns c = search laws.ends
 
@@ -61,8 +58,8 @@ loop-again c = (search needs, search laws.turn-at, search laws.turn)
 returns-2 : tie.Need-returns-2 Inv-loop μ-loop
 returns-2 c = search laws.spent
 
-pub beside-spec : {M : Type 1} → statement M
-beside-spec =
+pub number-of-spec : {M : Type 1} → statement M
+number-of-spec =
     tie.close
     (tie.spec
     Inv-loop
@@ -74,7 +71,6 @@ beside-spec =
     sub-part
     part-requires
     same-requires
-    element-requires
     returns
     behind-requires-2
     add-k
