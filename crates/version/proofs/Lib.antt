@@ -1,3 +1,5 @@
 pub mod RunLaws
 pub mod TextLaws
 pub mod OrderTheorems
+pub mod SortLaws
+pub mod RunTheorems

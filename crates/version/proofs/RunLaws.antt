@@ -37,11 +37,11 @@ of-kind : (k b : ℕ) → kind b ≡ k → ofKind k b ≡ true
 unfolding ofKind
 of-kind k b h = eq-eqb (kind b) k h
 
-runs-more : (b : ℕ) (s : List ℕ) → (kind b ≡ 0 → ⊥) → kindOf s ≡ kind b → runs (b ∷ s) ≡ longer b (runs s)
+pub runs-more : (b : ℕ) (s : List ℕ) → (kind b ≡ 0 → ⊥) → kindOf s ≡ kind b → runs (b ∷ s) ≡ longer b (runs s)
 unfolding runs
 runs-more b s h k = rw (ne-eqb (kind b) 0 h, eq-eqb (kindOf s) (kind b) k)
 
-runs-new : (b : ℕ) (s : List ℕ) → (kind b ≡ 0 → ⊥) → (kindOf s ≡ kind b → ⊥)
+pub runs-new : (b : ℕ) (s : List ℕ) → (kind b ≡ 0 → ⊥) → (kindOf s ≡ kind b → ⊥)
     → runs (b ∷ s) ≡ run (kind b) (b ∷ []) ∷ runs s
 unfolding runs
 runs-new b s h k = rw (ne-eqb (kind b) 0 h, ne-eqb (kindOf s) (kind b) k)
