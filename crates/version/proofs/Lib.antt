@@ -3,3 +3,4 @@ pub mod TextLaws
 pub mod OrderTheorems
 pub mod SortLaws
 pub mod RunTheorems
+pub mod OlderTheorems
