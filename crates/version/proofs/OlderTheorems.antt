@@ -1,7 +1,7 @@
--- Which texts are older (older-exactly) and which are the same (same-exactly). Of any comparison that is told by two relations,
--- so are lists (before-list, list-before, paired-list, list-paired): bytes, then runs.
+-- Where two relations tell what a comparison answers, they tell it of lists (told-lists): so of letters by numbers
+-- (told-number, told-bytes), of runs by both (told-run), and of texts by runs (older-exactly, same-exactly).
 use Prim.Native.Nat.{ℕ, _<_}
-use mathlib.Core.Path.{_≡_, refl, sym, ap, ap₂, _∙_}
+use mathlib.Core.Path.{_≡_, refl, sym, ap₂, _∙_}
 use mathlib.Core.Logic.{_↔_}
 use mathlib.Core.List.{List, [], _∷_}
 use native.Mathlib.Omega.{arith}
@@ -9,8 +9,9 @@ use Rattle.runs.specs.declared.Order.{Order}
 use Rattle.runs.specs.declared.Order.the-variants.{Older, Same, Newer}
 use Rattle.runs.specs.Orders.{orElse, byNumber, byList}
 use Rattle.runs.specs.Runs.{letter, digit, Run, run, value, byRun}
-use Rattle.runs.proofs.OrderLaws.{less, equal, compared, older-less, same-equal, else-same, else-older, both-same, numbers, lists}
-use Rattle.version.specs.Version.{runs, byText}
+use Rattle.runs.proofs.OrderLaws.{less, equal, compared, older-less, same-equal, numbers, lists}
+use Rattle.runs.proofs.OrderLaws.{else-same, else-older, both-same}
+use Rattle.version.specs.Version.{byText}
 use Rattle.version.specs.Theorems.{Parted, Before, Paired, AlikeRuns, LowerRun, OlderExactly, SameExactly}
 use Rattle.version.proofs.RunTheorems.{runs-exactly}
 
@@ -19,6 +20,7 @@ record Told {A : Type 0} (by : A → A → Order) (Alike Lower : A → A → Typ
   older : (by x y ≡ Older) ↔ Lower x y
   same : (by x y ≡ Same) ↔ Alike x y
 
+-- every element of a list
 data Each {A : Type 0} (P : A → Type 0) : List A → Type 0 where
   none : Each P []
   one : {x : A} {xs : List A} → P x → Each P xs → Each P (x ∷ xs)

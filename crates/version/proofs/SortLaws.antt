@@ -1,12 +1,12 @@
--- Digits, letters and separators are the bytes of the three kinds (digit-of, letter-of, separator-of). A statement of every byte
--- of a list: every-cons, every-map, longest-map.
-use Prim.Native.Nat.{ℕ, zero, suc, _≤_, _<_}
+-- Digits, letters and separators are the bytes of the three kinds (digit-of, letter-of, separator-of); runs are of two
+-- (solid, solid-ne). A statement of every byte of a list: every-none, every-cons, every-tail, every-map, longest-map.
+use Prim.Native.Nat.{ℕ, zero, suc, _≤_}
 use mathlib.Core.Path.{_≡_, refl}
 use mathlib.Core.Logic.{_↔_, ⊎-elim, inl, inr}
-use mathlib.Core.List.{List, _∷_}
+use mathlib.Core.List.{List, [], _∷_}
 use mathlib.Core.Bool.{Bool, true, false, cond, _&&_, _||_}
 use lib.Dec.{leb}
-use lib.ListN.{length, getD}
+use lib.ListN.{getD}
 use borrow.Author.Tests.{leb-true, leb-false}
 use native.Mathlib.Omega.{arith}
 use Rattle.runs.specs.Runs.{separator, letter, digit, isDigit, isLetter, kind}
@@ -36,7 +36,8 @@ sort : (b : ℕ) → Sort b (kind b)
 unfolding kind isDigit isLetter
 sort b = go (within 48 57 b) (within 65 90 b) (within 97 122 b)
   where
-    go : {p q r : Bool} → Within 48 57 b p → Within 65 90 b q → Within 97 122 b r → Sort b (cond p 2 (cond (q || r) 1 0))
+    go : {p q r : Bool} → Within 48 57 b p → Within 65 90 b q → Within 97 122 b r
+        → Sort b (cond p 2 (cond (q || r) 1 0))
     go (inside h k) y z = of-digits (h, k)
     go (outside n) (inside h k) z = of-letters (inl (h, k))
     go (outside n) (outside m) (inside h k) = of-letters (inr (h, k))
@@ -92,6 +93,9 @@ solid-ne digits e = omega arith
 solid-ne letters e = omega arith
 
 -- every byte of a list
+pub every-none : (P : ℕ → Type 0) → Every P []
+every-none P i l = absurd (omega arith)
+
 pub every-cons : (P : ℕ → Type 0) (b : ℕ) (bs : List ℕ) → P b → Every P bs → Every P (b ∷ bs)
 every-cons P b bs h k zero l = h
 every-cons P b bs h k (suc i) l = k i (omega arith)
