@@ -1,5 +1,5 @@
--- Runs are in order by their keys (by-key, run-order), so texts are by their runs (text-order); what the request asks of
--- a total order follows from an order's four laws (total): texts-in-order.
+-- Runs are in order by their keys (by-key, run-order), so texts are by their runs (text-order); what the request asks
+-- of a total order follows from an order's four laws (total): texts-in-order.
 use Prim.Native.Nat.{ℕ}
 use mathlib.Core.Path.{_≡_, refl, sym, ap, _∙_}
 use mathlib.Core.Logic.{_⊎_, inl, inr}
