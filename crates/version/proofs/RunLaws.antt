@@ -1,5 +1,6 @@
--- A text's runs: behind separators they are the same (runs-skip), the first is the longest (runs-run); how two texts compare
--- by their first runs (both-run, both-end, differ).
+-- A text's runs: behind separators they are the same (runs-skip), a byte in front makes the first longer or a new one
+-- (runs-more, runs-new), the first is the longest (runs-run); how two texts compare by their first runs (both-run,
+-- both-end, differ).
 use Prim.Native.Nat.{ℕ, suc, _≤_, _<_}
 use mathlib.Core.Path.{_≡_, refl, sym, ap, ap₂, _∙_}
 use mathlib.Core.List.{List, [], _∷_}
