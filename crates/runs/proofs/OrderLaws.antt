@@ -45,7 +45,7 @@ number-back a b (is-less h) = more b a h
 number-back a b (is-same h) = equal b a (sym h)
 number-back a b (is-more h) = less b a h
 
-older-less : (a b : ℕ) {o : Order} → Compared a b o → o ≡ Older → a < b
+pub older-less : (a b : ℕ) {o : Order} → Compared a b o → o ≡ Older → a < b
 older-less a b (is-less h) e = h
 older-less a b (is-same h) e = let z : _≡_ {A = ℕ} 0 1 = cc in absurd (omega arith)
 older-less a b (is-more h) e = let z : _≡_ {A = ℕ} 0 1 = cc in absurd (omega arith)

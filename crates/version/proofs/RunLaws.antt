@@ -1,5 +1,6 @@
--- A text's runs: behind separators they are the same (runs-skip), the first is the longest (runs-run); how two texts compare
--- by their first runs (both-run, both-end, differ).
+-- A text's runs: behind separators they are the same (runs-skip), a byte in front makes the first longer or a new one
+-- (runs-more, runs-new), the first is the longest (runs-run); how two texts compare by their first runs (both-run,
+-- both-end, differ).
 use Prim.Native.Nat.{ℕ, suc, _≤_, _<_}
 use mathlib.Core.Path.{_≡_, refl, sym, ap, ap₂, _∙_}
 use mathlib.Core.List.{List, [], _∷_}
@@ -37,11 +38,11 @@ of-kind : (k b : ℕ) → kind b ≡ k → ofKind k b ≡ true
 unfolding ofKind
 of-kind k b h = eq-eqb (kind b) k h
 
-runs-more : (b : ℕ) (s : List ℕ) → (kind b ≡ 0 → ⊥) → kindOf s ≡ kind b → runs (b ∷ s) ≡ longer b (runs s)
+pub runs-more : (b : ℕ) (s : List ℕ) → (kind b ≡ 0 → ⊥) → kindOf s ≡ kind b → runs (b ∷ s) ≡ longer b (runs s)
 unfolding runs
 runs-more b s h k = rw (ne-eqb (kind b) 0 h, eq-eqb (kindOf s) (kind b) k)
 
-runs-new : (b : ℕ) (s : List ℕ) → (kind b ≡ 0 → ⊥) → (kindOf s ≡ kind b → ⊥)
+pub runs-new : (b : ℕ) (s : List ℕ) → (kind b ≡ 0 → ⊥) → (kindOf s ≡ kind b → ⊥)
     → runs (b ∷ s) ≡ run (kind b) (b ∷ []) ∷ runs s
 unfolding runs
 runs-new b s h k = rw (ne-eqb (kind b) 0 h, ne-eqb (kindOf s) (kind b) k)
