@@ -5,6 +5,8 @@ use mathlib.Core.Path.{_≡_}
 use mathlib.Core.List.{List}
 use lib.ListN.{length}
 use Rattle.format.specs.Verdicts.{packedOf}
+use Rattle.runs.specs.declared.Order.{Order}
+use Rattle.runs.specs.declared.Order.the-variants.{Older, Same, Newer}
 use Rattle.reading.specs.Reading.{readAnswer}
 use Rattle.reading.specs.Buffers.{numbersIn, bytesAfter}
 use Rattle.verify.specs.Lent.{digestAnswer, digestAfter}
@@ -24,3 +26,9 @@ pub record StationWrite (name signature signatureRow header headerRow before : L
 pub record StationDigest (bytes before : List ℕ) (answer : ℕ) (after : List ℕ) : Type 0 where
   pub answered : answer ≡ packedOf (digestAnswer (length before))
   pub buffer : after ≡ digestAfter bytes before
+
+-- Request 6: how one version text stands to another, for C
+abbrev pub orderNumber : Order → ℕ
+orderNumber Older = 0
+orderNumber Same = 1
+orderNumber Newer = 2

@@ -1,10 +1,13 @@
 // The calls for C.
-// Number and place are in one number, number × 2^32 + place.
+// Number and place are in one number, number × 2^32 + place; how one text stands to another is 0, 1 or 2.
 ghost use mathlib.Core.Path.{_≡_};
 ghost use Rattle.format.specs.Verdicts.{packedOf};
 ghost use Rattle.elements.specs.Elements.{findElementAnswer};
 ghost use Rattle.lookups.specs.Lookup.{findAnswer};
-ghost use Rattle.station.specs.Station.{StationRead, StationWrite, StationDigest};
+ghost use Rattle.version.specs.Version.{byText};
+ghost use Rattle.meets.specs.Meets.{meetsAnswer};
+ghost use Rattle.station.specs.Station.{StationRead, StationWrite, StationDigest, orderNumber};
+use runs::Order;
 
 // A look-up: 0 and the data's file offset, or the first failing check of 2 to 13, 28 and 25.
 #[no_mangle]
@@ -61,4 +64,26 @@ pub extern "C" fn station_digest(bytes: &[u8], digest: &mut [u8]) -> u64
     ensures { λ r. ⌜ StationDigest (now (bytes .entry)) (now (digest .entry)) r (now (digest .exit)) ⌝ }
 {
     verify::put_digest(bytes, digest).packed()
+}
+
+// How the left version text stands to the right one: 0 older, 1 the same, 2 newer.
+#[no_mangle]
+pub extern "C" fn station_compare(left: &[u8], right: &[u8]) -> u32
+    ensures { λ r. ⌜ r ≡ orderNumber (byText (now (left .entry)) (now (right .entry))) ⌝ }
+{
+    let order = version::compare(left, right);
+    match order {
+        Order::Older => 0,
+        Order::Same => 1,
+        Order::Newer => 2,
+    }
+}
+
+// Whether a version text meets what is required for a name: 0 with place 1 for yes and 0 for no, or the first failing check of
+// 2 to 13, 28 and 25.
+#[no_mangle]
+pub extern "C" fn station_meets(pkg: &[u8], name: &[u8], version: &[u8]) -> u64
+    ensures { λ r. ⌜ r ≡ packedOf (meetsAnswer (now (pkg .entry)) (now (name .entry)) (now (version .entry))) ⌝ }
+{
+    meets::meets(pkg, name, version).packed()
 }
