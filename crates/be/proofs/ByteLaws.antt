@@ -1,10 +1,10 @@
 -- Bytes and parts at the end of a list: be16-past, be32-past, part-past, part-tail, part-inside. Parts: part-join,
--- length-part. A number behind a place: be32-drop.
+-- length-part. A number behind a place, and the first of a part: be32-drop, be32-part.
 use Prim.Native.Nat.{ℕ, _+_, _-_, _≤_, _<_}
 use mathlib.Core.Path.{_≡_, sym, _∙_}
 use mathlib.Core.List.{List, [], _++_}
 use lib.ListN.{length, getD, take, drop, length-take, length-drop, List·getD-eq-default, drop-of-length-le}
-use lib.Seq.{take-nil, take-all, take-add, drop-drop, getD-drop}
+use lib.Seq.{take-nil, take-all, take-add, drop-drop, getD-take, getD-drop}
 use native.Mathlib.Omega.{arith}
 use native.Mathlib.Nat.{add-assoc}
 use Rattle.be.specs.Numbers.{be16At, be32At}
@@ -45,3 +45,14 @@ length-part s from extent h = simp (length-take, length-drop) (omega arith)
 pub be32-drop : (s : List ℕ) (from at : ℕ) → be32At (drop from s) at ≡ be32At s (from + at)
 unfolding be32At
 be32-drop s from at = simp (getD-drop, add-assoc)
+
+-- the number that a part begins with
+pub be32-part : (s : List ℕ) (at n : ℕ) → 4 ≤ n → be32At (take n (drop at s)) 0 ≡ be32At s at
+unfolding be32At
+be32-part s at n l = cc (byte 0 (omega arith), byte 1 (omega arith), byte 2 (omega arith), byte 3 (omega arith), first)
+  where
+    byte : (k : ℕ) → k < 4 → getD (take n (drop at s)) k 0 ≡ getD s (at + k) 0
+    byte k m = getD-take n (drop at s) k 0 (omega arith) ∙ getD-drop at s k 0
+
+    first : at + 0 ≡ at
+    first = omega arith

@@ -6,10 +6,9 @@ use mathlib.Core.Path.{_≡_, refl, sym, ap, _∙_}
 use mathlib.Core.Logic.{_↔_, Iff·rfl}
 use mathlib.Core.List.{List}
 use mathlib.Core.Bool.{true}
-use lib.ListN.{getD, take, drop}
-use lib.Seq.{getD-take, getD-drop}
 use native.Mathlib.Omega.{arith}
 use Rattle.be.specs.Numbers.{be32At}
+use Rattle.be.proofs.ByteLaws.{be32-part}
 use Rattle.format.specs.declared.section.Section.{Section}
 use Rattle.format.specs.declared.section.Structure.the-variants.{Header}
 use Rattle.format.specs.declared.records.IndexRecord.{IndexRecord}
@@ -103,16 +102,6 @@ unfolding sizeTagCheck
 size-lawful s len signature header apart h = simp (last-iff, eqb-iff, number-iff s signature apart 1000) Iff·rfl
 
 -- 23
-be32-part : (s : List ℕ) (at n : ℕ) → 4 ≤ n → be32At (take n (drop at s)) 0 ≡ be32At s at
-unfolding be32At
-be32-part s at n l = cc (byte 0 (omega arith), byte 1 (omega arith), byte 2 (omega arith), byte 3 (omega arith), first)
-  where
-    byte : (k : ℕ) → k < 4 → getD (take n (drop at s)) k 0 ≡ getD s (at + k) 0
-    byte k m = getD-take n (drop at s) k 0 (omega arith) ∙ getD-drop at s k 0
-
-    first : at + 0 ≡ at
-    first = omega arith
-
 module _ (s : List ℕ) (start : ℕ) (lawful : LawfulStructure Header s start) where
   -- the number that a look-up shows is that of the record
   shown-number : (i : ℕ) → i < sectionAt s start .nindex → recordAt s (sectionAt s start) i .tag ≡ batchTag

@@ -1,2 +1,4 @@
 pub mod FlagLaws
 pub mod MeetLaws
+pub mod RelationLaws
+pub mod MeetTheorems

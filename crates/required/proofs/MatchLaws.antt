@@ -1,5 +1,6 @@
 -- Which number a name has: the first that matches (first-match), one of those that match (some-match, match-of); what is
--- required where names and versions are string arrays of one count (in-arrays, arrays-of).
+-- required where names and versions are string arrays of one count (in-arrays, arrays-of), and what where nothing is
+-- (refused-25, refused-first).
 use Prim.Native.Nat.{ℕ, zero, suc, _+_, _≤_, _<_}
 use mathlib.Core.Path.{_≡_, refl, sym, ap, _∙_}
 use mathlib.Core.List.{List}
@@ -129,3 +130,30 @@ module _ (s name : List ℕ) {header : Section} {versions : Entry} {k : ℕ} whe
   arrays-of h =
       let p = passed (soundCheck s) (requirementIn s name (headerAt s)) h in
       among (p .0) (findIn s (headerAt s) 1049 8) (findIn s (headerAt s) 1050 8) refl refl (p .1)
+
+-- where nothing is required
+pub refused-first : (s name : List ℕ) {number place : ℕ} → soundCheck s ≡ Fail number place
+    → requirementFor s name ≡ Refused number place
+unfolding requirementFor
+refused-first s name h = rw h
+
+abbrev pub Only25 : Requirement → Type 0
+Only25 r = (number place : ℕ) → r ≡ Refused number place → (number ≡ 25) × (place ≡ 0)
+
+missing : (h : Section) (v : Entry) (n : Named) → Only25 (requirementAs h v n)
+missing h v (Number k) number place e = let z : _≡_ {A = ℕ} 0 1 = cc in absurd (omega arith)
+missing h v Nowhere number place e = (cc, cc)
+
+among-25 : (s name : List ℕ) (header : Section) (f g : Found) → Only25 (requirementAmong s name header f g)
+among-25 s name header (At names) (At versions) = go (eqb (names .count) (versions .count))
+  where
+    go : (b : Bool)
+        → Only25 (cond b (requirementAs header versions (numberFrom s name names (names .count) 0)) (Refused 25 0))
+    go true = missing header versions (numberFrom s name names (names .count) 0)
+    go false = λ number place e. (cc, cc)
+among-25 s name header (At names) Nothing = λ number place e. (cc, cc)
+among-25 s name header Nothing g = λ number place e. (cc, cc)
+
+pub refused-25 : (s name : List ℕ) → soundCheck s ≡ Pass → Only25 (requirementFor s name)
+unfolding requirementFor
+refused-25 s name h = rw h (among-25 s name (headerAt s) (findIn s (headerAt s) 1049 8) (findIn s (headerAt s) 1050 8))

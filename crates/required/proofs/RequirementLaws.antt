@@ -1,6 +1,6 @@
 -- What is required for a name, in the words of the theorems: the first string of 1049 that is the name gives the number
 -- (required-first), some such string gives one (required-some), and a requirement comes from one (required-of). What an
--- element look-up shows of a string array: found-in, shown, shown-text.
+-- element look-up shows: found-in, shown, and shown-text of a string array.
 use Prim.Native.Nat.{ℕ, _<_}
 use mathlib.Core.Path.{_≡_, refl, sym, ap, _∙_}
 use mathlib.Core.Logic.{_≢_}
@@ -36,19 +36,21 @@ use Rattle.required.proofs.MatchLaws.{matches, first-match, some-match,
 not-empty : (name : List ℕ) → name ++ (0 ∷ []) ≢ []
 not-empty name h = let z = ap length h in omega (arith, length-append name (0 ∷ []))
 
--- a string array of the header, found by its record
-module _ (s : List ℕ) (tag i : ℕ) (h : soundCheck s ≡ Pass) (r : RecordFor s (headerAt s) tag 8 i) where
-  found : sought s 1 tag 8 ≡ Here (entryAt s (headerAt s) i)
-  found = found-of-record s 1 tag 8 h i r
+-- an entry of the header, found by its record
+module _ (s : List ℕ) (tag ty i : ℕ) (h : soundCheck s ≡ Pass) (r : RecordFor s (headerAt s) tag ty i) where
+  found : sought s 1 tag ty ≡ Here (entryAt s (headerAt s) i)
+  found = found-of-record s 1 tag ty h i r
 
-  pub found-in : findIn s (headerAt s) tag 8 ≡ At (entryAt s (headerAt s) i)
+  pub found-in : findIn s (headerAt s) tag ty ≡ At (entryAt s (headerAt s) i)
   unfolding sought
-  found-in = sought-here (soundCheck s) (findIn s (headerAt s) tag 8) (entryAt s (headerAt s) i) found .1
+  found-in = sought-here (soundCheck s) (findIn s (headerAt s) tag ty) (entryAt s (headerAt s) i) found .1
 
   pub shown : (k : ℕ) → k < recordAt s (headerAt s) i .count
-      → soughtElement s 1 tag 8 k ≡ Here (elementOf s (entryAt s (headerAt s) i) k)
-  shown k l = element-found s 1 tag 8 k (entryAt s (headerAt s) i) found l
+      → soughtElement s 1 tag ty k ≡ Here (elementOf s (entryAt s (headerAt s) i) k)
+  shown k l = element-found s 1 tag ty k (entryAt s (headerAt s) i) found l
 
+-- a string array
+module _ (s : List ℕ) (tag i : ℕ) (h : soundCheck s ≡ Pass) (r : RecordFor s (headerAt s) tag 8 i) where
   pub strings : elementSize (recordAt s (headerAt s) i .ty) ≡ ToZero
   unfolding elementSize
   strings = rw (r .typed)
@@ -60,7 +62,7 @@ module _ (s : List ℕ) (tag i : ℕ) (h : soundCheck s ≡ Pass) (r : RecordFor
       let u = entry-sound s h 1 i (r .within) in
       let a = u .inside in
       let b = structure-fits s h 1 in
-      ap (soughtBytes s) (shown k l)
+      ap (soughtBytes s) (shown s tag 8 i h r k l)
       ∙ string-split s (entryAt s (headerAt s) i) k strings l (u .strings strings) (omega arith)
 
   -- an element that is shown has a number below the count
@@ -101,7 +103,7 @@ module _ (s name : List ℕ) (a : StringArrays s) where
   unfolding names
   numbered h =
       in-arrays s name (entryAt s (headerAt s) (a .names)) (entryAt s (headerAt s) (a .versions)) (a .sound)
-      (found-in s 1049 (a .names) (a .sound) (a .named)) (found-in s 1050 (a .versions) (a .sound) (a .versioned))
+      (found-in s 1049 8 (a .names) (a .sound) (a .named)) (found-in s 1050 8 (a .versions) (a .sound) (a .versioned))
       (a .counts) ∙ ap (requirementAs (headerAt s) (entryAt s (headerAt s) (a .versions))) h
 
   pub required-first : (k : ℕ) → IsName s name k → ((m : ℕ) → m < k → IsName s name m → ⊥)
@@ -123,10 +125,10 @@ module _ (s name : List ℕ) (a : StringArrays s) where
 
 -- a requirement that was found
 module _ (s name : List ℕ) {header : Section} {versions : Entry} {k : ℕ} (h : requirementFor s name ≡ Beside header versions k) where
-  arrays : Arrays s name header versions k
+  pub arrays : Arrays s name header versions k
   arrays = arrays-of s name h
 
-  string-arrays : (a : StringArrays s) × (arrays .names ≡ entryAt s (headerAt s) (a .names))
+  pub string-arrays : (a : StringArrays s) × (arrays .names ≡ entryAt s (headerAt s) (a .names))
       × (versions ≡ entryAt s (headerAt s) (a .versions))
   unfolding sought
   string-arrays =

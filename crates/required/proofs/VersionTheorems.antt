@@ -25,7 +25,7 @@ unfolding soughtVersion
 beside s name a k l h =
     let c = a .counts in
     ap (λ (r : Requirement). soughtBytes s (versionOf s r)) h
-    ∙ sym (ap (soughtBytes s) (shown s 1050 (a .versions) (a .sound) (a .versioned) k (omega arith)))
+    ∙ sym (ap (soughtBytes s) (shown s 1050 8 (a .versions) (a .sound) (a .versioned) k (omega arith)))
 
 pub version-beside : VersionBeside
 version-beside s name k a h f = beside s name a k (name-below s name a k h) (required-first s name a k h f)

@@ -1,5 +1,6 @@
 -- Runs are in order by their keys (by-key, run-order), so texts are by their runs (text-order); what the request asks
--- of a total order follows from an order's four laws (total): texts-in-order.
+-- of a total order follows from an order's four laws (total): texts-in-order. A newer text is one that the other is older than:
+-- newer-exactly.
 use Prim.Native.Nat.{ℕ}
 use mathlib.Core.Path.{_≡_, refl, sym, ap, _∙_}
 use mathlib.Core.Logic.{_⊎_, inl, inr}
@@ -13,7 +14,8 @@ use Rattle.runs.specs.Orders.{orElse, turned, byNumber, byList, IsOrder}
 use Rattle.runs.specs.Runs.{digit, Run, run, value, byRun}
 use Rattle.runs.proofs.OrderLaws.{Compared, is-less, is-same, is-more, compared, numbers, lists, through, alike-right}
 use Rattle.version.specs.Version.{runs, byText}
-use Rattle.version.specs.Theorems.{TotalOrder, TextsInOrder}
+use Rattle.version.specs.Theorems.{TotalOrder, TextsInOrder, NewerExactly}
+use Rattle.version.proofs.OlderTheorems.{older-exactly}
 
 -- a comparison that answers as an order does is one
 alike-order : {A : Type 0} (by to : A → A → Order) → ((x y : A) → by x y ≡ to x y) → IsOrder to → IsOrder by
@@ -90,3 +92,9 @@ total by order = record {
 
 pub texts-in-order : TextsInOrder
 texts-in-order = total byText text-order
+
+pub newer-exactly : NewerExactly
+newer-exactly s t rs qs p q =
+    let c = texts-in-order .converse t s in
+    let o = older-exactly t s qs rs q p in
+    (λ h. o .0 (c .1 h), λ b. c .0 (o .1 b))

@@ -79,6 +79,11 @@ abbrev pub SameExactly : Type 0
 SameExactly =
     (s t : List ℕ) (rs qs : List Run) → Parted s rs → Parted t qs → (byText s t ≡ Same) ↔ Paired AlikeRuns rs qs
 
+abbrev pub NewerExactly : Type 0
+NewerExactly =
+    (s t : List ℕ) (rs qs : List Run) → Parted s rs → Parted t qs
+    → (byText s t ≡ Newer) ↔ Before AlikeRuns LowerRun qs rs
+
 -- a total order up to Same
 pub record TotalOrder {A : Type 0} (by : A → A → Order) : Type 0 where
   -- Same is an equivalence
