@@ -22,7 +22,8 @@ use Rattle.required.specs.declared.Named.{Named}
 use Rattle.required.specs.declared.Named.the-variants.{Number, Nowhere}
 use Rattle.required.specs.declared.Requirement.{Requirement}
 use Rattle.required.specs.declared.Requirement.the-variants.{Beside, Refused}
-use Rattle.required.specs.Version.{textOf, numberFrom, requirementAs, requirementAmong, requirementIn, requirementBy, requirementFor}
+use Rattle.required.specs.Version.{textOf, numberFrom, requirementAs, requirementAmong, requirementIn}
+use Rattle.required.specs.Version.{requirementBy, requirementFor}
 
 module _ (s name : List ℕ) (names : Entry) where
   -- whether string k of the names is the lent one

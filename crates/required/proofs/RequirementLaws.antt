@@ -124,7 +124,8 @@ module _ (s name : List ℕ) (a : StringArrays s) where
       (m .0, omega arith, numbered (m .2))
 
 -- a requirement that was found
-module _ (s name : List ℕ) {header : Section} {versions : Entry} {k : ℕ} (h : requirementFor s name ≡ Beside header versions k) where
+module _ (s name : List ℕ) {header : Section} {versions : Entry} {k : ℕ}
+    (h : requirementFor s name ≡ Beside header versions k) where
   pub arrays : Arrays s name header versions k
   arrays = arrays-of s name h
 

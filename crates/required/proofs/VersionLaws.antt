@@ -35,7 +35,8 @@ use Rattle.required.specs.declared.Named.{Named}
 use Rattle.required.specs.declared.Named.the-variants.{Number, Nowhere}
 use Rattle.required.specs.declared.Requirement.{Requirement}
 use Rattle.required.specs.declared.Requirement.the-variants.{Beside, Refused}
-use Rattle.required.specs.Version.{textOf, numberFrom, requirementIn, requirementFor, soughtVersion, requireName, requireVersion, stringArray}
+use Rattle.required.specs.Version.{textOf, numberFrom, requirementIn, requirementFor, soughtVersion}
+use Rattle.required.specs.Version.{requireName, requireVersion, stringArray}
 use Rattle.package.proofs.OpenLaws.{opened-sound, opened-unsound}
 use Rattle.lookups.proofs.SeekLaws.{header-found}
 use Rattle.elements.proofs.PartLaws.{in-of}

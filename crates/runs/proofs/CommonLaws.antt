@@ -175,7 +175,8 @@ module _ (k : ℕ) (s t : List ℕ) (i n : ℕ) (inv : n ≡ i + common k (drop 
   common-right h l = omega (arith, ap₂ (common k) (next s i h) (over t i l))
 
 -- the byte at a place
-pub byte-here : (k : ℕ) (s : List ℕ) (i : ℕ) {b : ℕ} → i < length s → b ≡ getD s i 0 → ofKind k b ≡ true → b ≡ byteOf k (drop i s)
+pub byte-here : (k : ℕ) (s : List ℕ) (i : ℕ) {b : ℕ} → i < length s → b ≡ getD s i 0 → ofKind k b ≡ true
+    → b ≡ byteOf k (drop i s)
 byte-here k s i h e f = sym (ap (byteOf k) (next s i h) ∙ byte-yes k (getD s i 0) _ (ap (ofKind k) (sym e) ∙ f) ∙ sym e)
 
 pub byte-other : (k : ℕ) (s : List ℕ) (i : ℕ) → i < length s → ofKind k (getD s i 0) ≡ false → 0 ≡ byteOf k (drop i s)

@@ -1,5 +1,7 @@
--- The order of version texts is a total order up to Same.
-use Prim.Native.Nat.{ℕ, zero, suc, _+_, _*_, _-_, _≤_, _<_}
+-- Numbers compared (less, more, equal, compared) are in order (numbers), and so are lists by an order of their elements
+-- (lists), and whatever is compared through a function (through). What follows one answer or another: else-same, else-older,
+-- else-newer, both-same.
+use Prim.Native.Nat.{ℕ, _<_}
 use mathlib.Core.Path.{_≡_, refl, sym, ap, ap₂, _∙_}
 use mathlib.Core.List.{List, [], _∷_}
 use mathlib.Core.Bool.{Bool, true, false, cond}
@@ -9,7 +11,6 @@ use native.Mathlib.Omega.{arith}
 use Rattle.runs.specs.declared.Order.{Order}
 use Rattle.runs.specs.declared.Order.the-variants.{Older, Same, Newer}
 use Rattle.runs.specs.Orders.{orElse, turned, byNumber, byList, IsOrder}
-use Rattle.runs.specs.Runs.{letter, digit, Run, run, value, byRun}
 
 -- numbers
 pub less : (a b : ℕ) → a < b → byNumber a b ≡ Older
@@ -69,12 +70,6 @@ unfolding turned orElse
 turned-orElse Older r = refl
 turned-orElse Same r = refl
 turned-orElse Newer r = refl
-
-turned-twice : (o : Order) → turned (turned o) ≡ o
-unfolding turned
-turned-twice Older = refl
-turned-twice Same = refl
-turned-twice Newer = refl
 
 pub both-same : (o r : Order) → orElse o r ≡ Same → (o ≡ Same) × (r ≡ Same)
 unfolding orElse

@@ -1,5 +1,5 @@
--- Digits by value: behind leading zeros they compare by length and then digit by digit (by-lengths); so do the runs of two texts,
--- by what stands at their first difference (by-digits).
+-- Digits by value: behind leading zeros they compare by length and then digit by digit (by-lengths); so do the runs of two
+-- texts, by what stands at their first difference (by-digits).
 use Prim.Native.Nat.{ℕ, suc, _+_, _*_, _-_, _≤_, _<_}
 use mathlib.Core.Path.{_≡_, refl, sym, ap, ap₂, _∙_}
 use mathlib.Core.List.{List, [], _∷_}
@@ -76,9 +76,13 @@ unfolding front
 numeric [] = none
 numeric (b ∷ s) = go (ofKind digit b) refl (numeric s)
   where
-    go : (t : Bool) → ofKind digit b ≡ t → Numeric (numeral s) → Numeric (take (cond t (suc (front (ofKind digit) s)) 0) (b ∷ s))
+    go : (t : Bool) → ofKind digit b ≡ t → Numeric (numeral s)
+        → Numeric (take (cond t (suc (front (ofKind digit) s)) 0) (b ∷ s))
     go true h n = let r = digit-range b h in one (r .0) (r .1) n
     go false h n = none
+
+counted : (s : List ℕ) → length (numeral s) ≡ front (ofKind digit) s
+counted s = length-take-le _ s (front-fits (ofKind digit) s)
 
 -- behind the zeros in front
 abbrev behind : List ℕ → List ℕ
@@ -126,9 +130,8 @@ module _ (s t : List ℕ) where
   unfolding byRun frontRun byFirst
   by-digits =
       let f = at-first in
-      let l : (u : List ℕ) → length (numeral u) ≡ front (ofKind digit) u = λ u. length-take-le _ u (front-fits (ofKind digit) u) in
       else-same _ (equal digit digit refl)
       ∙ ap₂ byNumber (zeros-value s) (zeros-value t)
       ∙ by-lengths (numeral (behind s)) (numeral (behind t)) (compared _ _) (numeric (behind s)) (numeric (behind t))
       (led-behind s) (led-behind t)
-      ∙ ap₂ orElse (ap₂ byNumber (l (behind s) ∙ f .left) (l (behind t) ∙ f .right) ∙ added apart _ _ (compared _ _)) (f .order)
+      ∙ ap₂ orElse (ap₂ byNumber (counted (behind s) ∙ f .left) (counted (behind t) ∙ f .right) ∙ added apart _ _ (compared _ _)) (f .order)

@@ -127,7 +127,7 @@ fn longer(a: &[u8], b: &[u8]) -> Order
     }
 }
 
-// Which is higher, of two rows of digits that differ first in their first digits, if at all: the longer, else by that digit.
+// Which is newer, of two runs of digits that differ in their first digit or not at all: the longer, else by that digit.
 fn higher(a: &[u8], b: &[u8]) -> Order
     ensures { λ r. ⌜ r ≡ byFirst (now (a .entry)) (now (b .entry)) ⌝ }
 {

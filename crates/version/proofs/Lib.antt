@@ -4,3 +4,4 @@ pub mod SortLaws
 pub mod RunTheorems
 pub mod OlderTheorems
 pub mod OrderTheorems
+pub mod Examples

@@ -31,7 +31,8 @@ module _ (s : List ℕ) (i : ℕ) (h : i ≤ length s) {p : ℕ} (e : p ≡ i + 
         starts = λ z. ap runs d ∙ starts (drop i s) (ap kindOf (sym d) ∙ z);
       }
 
-module _ (s : List ℕ) (from i : ℕ) (h : from ≤ length s) (inv : from + front (ofKind separator) (drop from s) ≡ i + front (ofKind separator) (drop i s)) where
+module _ (s : List ℕ) (from i : ℕ) (h : from ≤ length s)
+    (inv : from + front (ofKind separator) (drop from s) ≡ i + front (ofKind separator) (drop i s)) where
   pub skip-stop : i < length s → ofKind separator (getD s i 0) ≡ false → Skips s from i
   skip-stop l f = skips s from h (front-stop (ofKind separator) s i _ inv l f)
 
@@ -123,8 +124,8 @@ module _ (k : ℕ) (s t : List ℕ) (p q : ℕ) {r : Met}
       )
 
 -- one turn: the texts from i and j on, with the next runs at p and q
-module _ (s t : List ℕ) (i j p q k l : ℕ) {o : Order} (inv : o ≡ byText (drop i s) (drop j t)) (x : Skips s i p) (y : Skips t j q)
-    (f : k ≡ kindOf (drop p s)) (g : l ≡ kindOf (drop q t)) where
+module _ (s t : List ℕ) (i j p q k l : ℕ) {o : Order} (inv : o ≡ byText (drop i s) (drop j t))
+    (x : Skips s i p) (y : Skips t j q) (f : k ≡ kindOf (drop p s)) (g : l ≡ kindOf (drop q t)) where
   skipped : o ≡ byText (drop p s) (drop q t)
   skipped = inv ∙ same-runs _ _ _ _ (sym (x .same)) (sym (y .same))
 

@@ -1,3 +1,4 @@
 pub mod Version
 pub mod Steps
 pub mod Theorems
+pub mod Examples

@@ -45,24 +45,31 @@ there s i e h = laws.within digit s i (λ z. h (e ∙ z))
 
 add-i : tie.Need-add-i Inv-loop μ-loop
 add-i c =
-    let at-loop = c .before .before .before .before in
-    omega (arith, there (at-loop .before .before .before .args .a .now) (at-loop .loop .i) (c .before .before .before .byte-of .ensures) (c .before .if1 .left))
+    let first = c .before .before .before in
+    let at-loop = first .before in
+    let a = at-loop .before .before .before .args .a .now in
+    omega (arith, there a (at-loop .loop .i) (first .byte-of .ensures) (c .before .if1 .left))
 
 loop-less : tie.Need-loop-less Inv-loop μ-loop
 loop-less c =
-    let at-loop = c .before .before .before .before in
-    omega (arith, there (at-loop .before .before .before .args .a .now) (at-loop .loop .i) (c .before .before .before .byte-of .ensures) (c .before .if1 .left))
+    let first = c .before .before .before in
+    let at-loop = first .before in
+    let a = at-loop .before .before .before .args .a .now in
+    omega (arith, there a (at-loop .loop .i) (first .byte-of .ensures) (c .before .if1 .left))
 
 loop-again : tie.Need-loop-again Inv-loop μ-loop
 loop-again c =
-    let at-loop = c .before .before .before .before in
-    let start = at-loop .before .before .before in
-    let a = there (start .args .a .now) (at-loop .loop .i) (c .before .before .before .byte-of .ensures) (c .before .if1 .left) in
-    let b = there (start .args .b .now) (at-loop .loop .i) (c .before .before .byte-of2 .ensures) (c .if3 .left) in (
+    let second = c .before .before in
+    let first = second .before in
+    let at-loop = first .before in
+    let a = at-loop .before .before .before .args .a .now in
+    let b = at-loop .before .before .before .args .b .now in
+    let f = there a (at-loop .loop .i) (first .byte-of .ensures) (c .before .if1 .left) in
+    let g = there b (at-loop .loop .i) (second .byte-of2 .ensures) (c .if3 .left) in (
       omega arith,
       omega arith,
-      laws.longer-turn (start .args .a .now) (start .args .b .now) (at-loop .loop .i) (at-loop .loop .inv .2)
-          (c .before .before .before .byte-of .ensures) (c .before .before .byte-of2 .ensures) (c .before .if1 .left) (c .if3 .left),
+      laws.longer-turn a b (at-loop .loop .i) (at-loop .loop .inv .2) (first .byte-of .ensures) (second .byte-of2 .ensures)
+          (c .before .if1 .left) (c .if3 .left),
     )
 
 pub longer-spec : {M : Type 1} → statement M

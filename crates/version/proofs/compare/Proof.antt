@@ -10,7 +10,8 @@ use Rattle.version.proofs.compare.Statement.{statement}
 use Rattle.version.proofs.compare.Tie as tie
 
 abbrev Inv-loop : tie.InvT-loop
-Inv-loop left right i₀ j₀ i j = (i ≤ length left) × (j ≤ length right) × (byText left right ≡ byText (drop i left) (drop j right))
+Inv-loop left right i₀ j₀ i j = (i ≤ length left) × (j ≤ length right)
+    × (byText left right ≡ byText (drop i left) (drop j right))
 
 abbrev μ-loop : tie.MeasureT-loop
 μ-loop left right i₀ j₀ i j = length left - i
