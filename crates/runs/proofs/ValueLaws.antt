@@ -11,7 +11,7 @@ use native.Mathlib.Omega.{arith}
 use Rattle.runs.specs.declared.Order.{Order}
 use Rattle.runs.specs.declared.Order.the-variants.{Older, Same, Newer}
 use Rattle.runs.specs.Orders.{orElse, byNumber, byList}
-use Rattle.runs.specs.Runs.{digit, ofKind, isZero, front, valueFrom, value, Run, run, byRun, frontRun}
+use Rattle.runs.specs.Runs.{digit, ofKind, isZero, front, valueFrom, byRun, frontRun}
 use Rattle.runs.specs.Common.{common, byFirst}
 use Rattle.runs.proofs.OrderLaws.{less, more, equal, Compared, is-less, is-same, is-more, compared, else-same}
 use Rattle.runs.proofs.KindLaws.{zero-digit, digit-range}
@@ -101,15 +101,15 @@ led-behind (b ∷ s) = go (isZero b) refl (led-behind s)
     go true h l = l
     go false h l = top (ofKind digit b) refl h
 
-zeros-value : (s : List ℕ) → value (numeral s) ≡ value (numeral (behind s))
+zeros-value : (s : List ℕ) → valueFrom 0 (numeral s) ≡ valueFrom 0 (numeral (behind s))
 unfolding front isZero valueFrom
 zeros-value [] = refl
 zeros-value (b ∷ s) = go (isZero b) refl (zeros-value s)
   where
-    go : (t : Bool) → isZero b ≡ t → value (numeral s) ≡ value (numeral (behind s))
-        → value (numeral (b ∷ s)) ≡ value (numeral (drop (cond t (suc (front isZero s)) 0) (b ∷ s)))
+    go : (t : Bool) → isZero b ≡ t → valueFrom 0 (numeral s) ≡ valueFrom 0 (numeral (behind s))
+        → valueFrom 0 (numeral (b ∷ s)) ≡ valueFrom 0 (numeral (drop (cond t (suc (front isZero s)) 0) (b ∷ s)))
     go true h e =
-        ap (λ (n : ℕ). value (take n (b ∷ s))) (front-pass (ofKind digit) b s (zero-digit b h))
+        ap (λ (n : ℕ). valueFrom 0 (take n (b ∷ s))) (front-pass (ofKind digit) b s (zero-digit b h))
         ∙ ap (λ (n : ℕ). valueFrom n (numeral s)) (omega (arith, eqb-true b 48 h)) ∙ e
     go false h e = refl
 
