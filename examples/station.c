@@ -2,10 +2,10 @@
  * station: reads a recipe book as a weighing station would, and prints its doses, or
  * says in plain words why the package is refused.
  *
- *   station [--edition N] FILE          FILE may be - for standard input; N is 2 by default
- *   station --meets NAME VERSION FILE   whether a version meets what the package requires
- *   station --compare LEFT RIGHT        which of two versions is newer
- *   station --refusals                  the table of docs/REFUSALS.md
+ *   station [--edition N] FILE         FILE may be - for standard input; N is 2 by default
+ *   station --meets NAME VERSION FILE  whether a version meets what the package requires
+ *   station --compare LEFT RIGHT       which of two versions is newer
+ *   station --refusals                 the table of docs/REFUSALS.md
  *
  * It ends with 0 for an accepted package, a version that meets what is required, and a
  * comparison; 1 for a refused package and a version that does not; and 2 where it could

@@ -169,7 +169,7 @@ same "index, of a directory" tests/inspect/usage.out
 # README.md: what the programs write for its examples
 sed -n '/^    \$ .*target\/bin\//,/^$/s/^    //p' README.md > "$work/examples"
 sed -n 's|^\$ ||p' "$work/examples" > "$work/commands"
-[ "$(wc -l < "$work/commands")" = 5 ] || fail 'README.md: not 5 examples'
+[ "$(wc -l < "$work/commands")" = 13 ] || fail 'README.md: not 13 examples'
 while IFS= read -r line; do
     printf '$ %s\n' "$line"
     eval "${line//target\/bin\/inspect/\"\$inspect\"}"
