@@ -116,12 +116,15 @@ pub(crate) fn put_unread() {
 }
 
 pub(crate) fn put_usage() {
-    put(b"usage: inspect index STRUCTURE\n");
-    put(b"       inspect find STRUCTURE TAG TYPE\n");
-    put(b"       inspect element STRUCTURE TAG TYPE NUMBER\n");
-    put(b"       inspect requires NAME\n");
-    put(b"       inspect meets NAME VERSION\n");
-    put(b"       inspect compare LEFT RIGHT\n");
-    put(b"It reads a package from standard input, but for compare, which reads nothing.\n");
-    put(b"STRUCTURE is 0 for the signature, else the header.\n");
+    put(
+        b"usage: inspect index STRUCTURE
+       inspect find STRUCTURE TAG TYPE
+       inspect element STRUCTURE TAG TYPE NUMBER
+       inspect requires NAME
+       inspect meets NAME VERSION
+       inspect compare LEFT RIGHT
+It reads a package from standard input, but for compare, which reads nothing.
+STRUCTURE is 0 for the signature, else the header.
+",
+    );
 }
