@@ -35,9 +35,11 @@ struct refusal {
 
 static const struct refusal refusals[] = {
     [0] = {NOWHERE,
-           "accepted; in a look-up: found; in a writing: written; of a digest: done",
-           "how many doses; in a look-up: file offset of the bytes; in a writing: the "
-           "package's length in bytes; of a digest: 16",
+           "accepted; in a look-up: found; of a requirement: answered; in a writing: "
+           "written; of a digest: done",
+           "how many doses; in a look-up: file offset of the bytes; of a requirement: 1 "
+           "if the version meets it, else 0; in a writing: the package's length in bytes; "
+           "of a digest: 16",
            "a right package",
            "Nothing."},
     [1] = {NOWHERE,
@@ -181,10 +183,15 @@ static const struct refusal refusals[] = {
             "a fault of the host program, not of the package",
             "Lend STATION_DOSES_ROOM bytes, which is enough for every book."},
     [25] = {NOWHERE,
-            "look-up: no record has that tag and that type",
+            "look-up: no record has that tag and that type; of a requirement: the package "
+            "has none for that name, or its names, versions and flags (1049, 1050, 1048) "
+            "are not string array, string array and int32 of one count",
             "0",
-            "an optional entry that is absent; a question with the wrong type",
-            "Take the entry as absent. Do not read it by another type."},
+            "an optional entry that is absent; a question with the wrong type; a name "
+            "that the package does not require, or one spelled otherwise",
+            "Take the entry as absent. Do not read it by another type. Of a requirement: "
+            "if the package is accepted, it does not require that name; else take no "
+            "version as right."},
     [26] = {NOWHERE,
             "element look-up: the entry has no element of that number",
             "0",

@@ -2,13 +2,16 @@
  * station: reads a recipe book as a weighing station would, and prints its doses, or
  * says in plain words why the package is refused.
  *
- *   station [--edition N] FILE   FILE may be - for standard input; N is 2 by default
- *   station --refusals           the table of docs/REFUSALS.md
+ *   station [--edition N] FILE         FILE may be - for standard input; N is 2 by default
+ *   station --meets NAME VERSION FILE  whether a version meets what the package requires
+ *   station --compare LEFT RIGHT       which of two versions is newer
+ *   station --refusals                 the table of docs/REFUSALS.md
  *
- * It ends with 0 for an accepted package, 1 for a refused one, and 2 where it could not
- * read the file, write its answer or understand its arguments.
+ * It ends with 0 for an accepted package, a version that meets what is required, and a
+ * comparison; 1 for a refused package and a version that does not; and 2 where it could
+ * not read the file, write its answer or understand its arguments.
  *
- * station_read alone decides. What is said about a refusal beside its number and place
+ * The calls alone decide. What is said about a refusal beside its number and place
  * is there to help whoever mends the package; no dose comes from it.
  */
 #include <errno.h>
@@ -495,7 +498,47 @@ static void print_refused(struct bytes package, uint32_t number, uint32_t place)
     } else {
         printf("Means:  a check that this program does not know.\n");
     }
-    printf("Weigh nothing from this package.\n");
+}
+
+/* ---- Versions ---- */
+
+static struct bytes text_of(const char *word)
+{
+    return (struct bytes){(const uint8_t *)word, strlen(word)};
+}
+
+/* Says how one version stands to another. */
+static int compare(struct bytes left, struct bytes right)
+{
+    static const char *const words[] = {
+        [STATION_OLDER] = "older than",
+        [STATION_SAME] = "the same as",
+        [STATION_NEWER] = "newer than",
+    };
+    print_text(left, 0);
+    printf(" is %s ",
+           words[station_compare(left.start, left.length, right.start, right.length)]);
+    print_text(right, 0);
+    putchar('\n');
+    return ACCEPTED;
+}
+
+/* Says whether a version meets what a package requires for a name. */
+static int meets(struct bytes package, struct bytes name, struct bytes version)
+{
+    uint64_t answer = station_meets(package.start, package.length, name.start, name.length,
+                                    version.start, version.length);
+    bool met = STATION_PLACE(answer) == 1;
+    if (STATION_NUMBER(answer) != 0) {
+        print_refused(package, STATION_NUMBER(answer), STATION_PLACE(answer));
+        return REFUSED;
+    }
+    printf("%s: ", met ? "yes" : "no");
+    print_text(version, 0);
+    printf(" %s what is required for ", met ? "meets" : "does not meet");
+    print_text(name, 0);
+    putchar('\n');
+    return met ? ACCEPTED : REFUSED;
 }
 
 /* ---- The program ---- */
@@ -510,6 +553,7 @@ static int read_book(struct bytes package, uint32_t edition)
     struct bytes doses = {room, sizeof room};
     if (number != 0) {
         print_refused(package, number, place);
+        printf("Weigh nothing from this package.\n");
         return REFUSED;
     }
     print_accepted(package, edition, doses, place);
@@ -517,13 +561,14 @@ static int read_book(struct bytes package, uint32_t edition)
 }
 
 /* Reads up to a package's room from a file; says so and answers false if it cannot. */
-static bool read_file(const char *name, uint8_t *room, size_t *length)
+static bool read_package(const char *name, struct bytes *package)
 {
+    static uint8_t room[PACKAGE_ROOM];
     bool standard = strcmp(name, "-") == 0;
     FILE *file = standard ? stdin : fopen(name, "rb");
     bool right = file != NULL;
     if (right) {
-        *length = fread(room, 1, PACKAGE_ROOM, file);
+        *package = (struct bytes){room, fread(room, 1, PACKAGE_ROOM, file)};
         right = !ferror(file);
     }
     if (!right)
@@ -532,15 +577,6 @@ static bool read_file(const char *name, uint8_t *room, size_t *length)
     if (file != NULL && !standard)
         (void)fclose(file);
     return right;
-}
-
-static int read_package(const char *name, uint32_t edition)
-{
-    static uint8_t room[PACKAGE_ROOM];
-    size_t length;
-    if (!read_file(name, room, &length))
-        return TROUBLE;
-    return read_book((struct bytes){room, length}, edition);
 }
 
 static int print_table(void)
@@ -558,6 +594,8 @@ static int print_table(void)
 static int usage(void)
 {
     fprintf(stderr, "usage: station [--edition N] FILE    (- is standard input)\n"
+                    "       station --meets NAME VERSION FILE\n"
+                    "       station --compare LEFT RIGHT\n"
                     "       station --refusals\n");
     return TROUBLE;
 }
@@ -573,21 +611,34 @@ static bool number_from(const char *text, uint32_t *number)
     return digit != text && *digit == 0 && value <= UINT32_MAX;
 }
 
+/* Whether the first word is an option, with so many words in all. */
+static bool is_option(int count, char **words, const char *option, int wanted)
+{
+    return count == wanted && strcmp(words[1], option) == 0;
+}
+
 static int run(int count, char **words)
 {
+    struct bytes package;
     uint32_t edition = USUAL_EDITION;
-    if (count == 2 && strcmp(words[1], "--refusals") == 0)
+    bool asked = is_option(count, words, "--meets", 5);
+    if (is_option(count, words, "--refusals", 2))
         return print_table();
-    if (count == 4 && strcmp(words[1], "--edition") == 0) {
+    if (is_option(count, words, "--compare", 4))
+        return compare(text_of(words[2]), text_of(words[3]));
+    if (is_option(count, words, "--edition", 4)) {
         if (!number_from(words[2], &edition))
             return usage();
-    } else if (count != 2) {
+    } else if (count != 2 && !asked) {
         return usage();
     }
     const char *name = words[count - 1];
     if (name[0] == '-' && name[1] != 0)
         return usage();
-    return read_package(name, edition);
+    if (!read_package(name, &package))
+        return TROUBLE;
+    return asked ? meets(package, text_of(words[2]), text_of(words[3]))
+                 : read_book(package, edition);
 }
 
 /* Whether everything printed has gone out. */

@@ -105,6 +105,14 @@ put_digest "$work/own.rpm"
 put_digest "$work/right.rpm"
 [ "$("$doses" < "$work/right.rpm")" = $'edition 2\n27 1250\n1 100\ntotal 1350' ] || fail "$page: a book of one's own"
 
+# the page's versions, both ways
+sed -n '/^<!-- versions -->$/,/^<!-- end -->$/p' "$page" | sed '1,3d;$d' | tr -d ' ' |
+    awk -F '[|]' '{ print $2, $3, $4; print $3, $2, $4 == "older" ? "newer" : $4 == "newer" ? "older" : $4 }' > "$work/versions"
+[ "$(wc -l < "$work/versions")" = 22 ] || fail "$page: not 11 pairs of versions"
+while read -r left right order; do
+    [ "$(target/bin/inspect compare "$left" "$right")" = "$order" ] || fail "$page: $left is not $order against $right"
+done < "$work/versions"
+
 # the page's examples
 if command -v python3 > /dev/null; then
     sed -n '/^```console$/,/^```$/p' "$page" | sed '/^```/d' > "$work/examples"

@@ -317,6 +317,84 @@ trouble 'directory' "$data"
 trouble 'directory' - < "$data"
 trouble 'standard input' - <&-
 
+# versions: the paper's examples and others, both ways
+# compares LEFT RIGHT WORDS: the whole output
+compares() {
+    runs 0 --compare "$1" "$2"
+    printf '"%s" is %s "%s"\n' "$1" "$3" "$2" | cmp - "$work/out" || fail "station --compare $1 $2"
+    [ ! -s "$work/err" ] || fail "station --compare $1 $2: a message"
+}
+# alike TEXT..: each the same as every other
+alike() {
+    local left right
+    for left in "$@"; do for right in "$@"; do compares "$left" "$right" 'the same as'; done; done
+}
+# rising TEXT..: each older than those behind it
+rising() {
+    local left right
+    while [ $# -gt 1 ]; do
+        left=$1
+        shift
+        for right in "$@"; do
+            compares "$left" "$right" 'older than'
+            compares "$right" "$left" 'newer than'
+        done
+    done
+}
+alike 1.0 1_0 1.00
+alike '' . ~^
+alike 1.2-3 1.2.3 01..2-3.
+rising '' 1 1.a 1.1
+rising '' A a aa b 0 9 10 10.A 10.a 10.0 11 18446744073709551615 18446744073709551616
+
+# .. and whether one meets what is required: kiln at least 2.0, clay exactly 1.0-2, oxide above 1.0.rc1, /bin/sh any
+# met yes|no NAME VERSION FILE: the whole output
+met() {
+    local status=0 words=meets
+    [ "$1" = yes ] || { status=1 words='does not meet'; }
+    runs "$status" --meets "$2" "$3" "$4"
+    printf '%s: "%s" %s what is required for "%s"\n' "$1" "$3" "$words" "$2" | cmp - "$work/out" ||
+        fail "station --meets $2 $3 $4"
+    [ ! -s "$work/err" ] || fail "station --meets $2 $3 $4: a message"
+}
+# unmet NAME VERSION FILE NUMBER PLACE [TEXT]: refused, with words for each part and none on weighing
+unmet() {
+    local part
+    runs 1 --meets "$1" "$2" "$3"
+    [ "$(head -n 1 "$work/out")" = "refused $4 at $5" ] || fail "station --meets $1 $2 $3: $(head -n 1 "$work/out")"
+    for part in Means Place Often 'To do'; do
+        grep -q "^$part:  [^ ]" "$work/out" || fail "station --meets $1 $2 $3: no '$part'"
+    done
+    grep -q Weigh "$work/out" && fail "station --meets $1 $2 $3: a word on weighing"
+    [ -z "${6-}" ] || says "$6"
+}
+deps=tests/data/rb-deps.rpm
+met yes kiln 2.0 "$deps"
+met yes kiln 2_00 "$deps"
+met yes kiln 10 "$deps"
+met no kiln 1.9 "$deps"
+met no kiln 2 "$deps"
+met yes clay 1.0.2 "$deps"
+met no clay 1.0 "$deps"
+met no clay 1.1 "$deps"
+met no oxide 1.0.rc1 "$deps"
+met yes oxide 1.0.1 "$deps"
+met yes /bin/sh '' "$deps"
+met yes kiln 2.0 - < "$deps"
+unmet kil 2.0 "$deps" 25 0 'of a requirement: the package has none for that name'
+unmet '' 2.0 "$deps" 25 0
+unmet kiln 2.0 "$data/check10_none" 10 168 "record 2 of 4 in the header's index"
+unmet kiln 2.0 "$work/rpmbuild" 28 4502
+unmet kiln 2.0 - 3 0 < /dev/null
+# a book that is refused for its digest alone can be asked
+met no 'rpmlib(FileDigests)' 4.6.1 "$work/dose"
+trouble usage --compare 1
+trouble usage --compare 1 2 3
+trouble usage --meets kiln 2.0
+trouble usage --meets kiln 2.0 "$deps" more
+trouble usage --meets kiln 2.0 --weigh
+trouble 'No such file' --meets kiln 2.0 "$data/none"
+
 # an answer that cannot be written
 # unwritten ARGUMENT..: ends with 2 on a full disk, a closed output and a closed pipe
 unwritten() {
@@ -335,6 +413,8 @@ unwritten() {
 unwritten "$data/book_example"
 unwritten "$data/check23_sum"
 unwritten --refusals
+unwritten --compare 1 2
+unwritten --meets kiln 2.0 "$deps"
 
 # the tables: docs/REFUSALS.md has the program's; include/station.h has the same numbers
 runs 0 --refusals

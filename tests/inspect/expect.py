@@ -1,9 +1,11 @@
 #!/usr/bin/env python3
-"""Writes the .out files for the cases beside this script, all but usage.out and unread.out, from the papers alone.
+"""Writes the .out files for the cases beside this script, all but usage.out, unread.out and too-long.out, from the papers alone.
 
 It shares no code with the program; the tests need only the files.
 """
+import itertools
 import pathlib
+import re
 import shlex
 import struct
 
@@ -123,20 +125,49 @@ def required(p, name):
     return versions[names.index(name + b'\0')] if name + b'\0' in names else b''
 
 
+def order(left, right):
+    """How one version text stands to another: its runs against the other's, the first two that differ."""
+    runs = (re.findall(rb'[0-9]+|[A-Za-z]+', text) for text in (left, right))
+    for a, b in itertools.zip_longest(*runs, fillvalue=b''):
+        # a missing run is lowest, then letters by bytes, then digits by value
+        a, b = ((0,) if not run else (2, int(run)) if run.isdigit() else (1, run) for run in (a, b))
+        if a != b:
+            return 'older' if a < b else 'newer'
+    return 'same'
+
+
+def meets(p, name, version):
+    header = opened(p)[1]
+    have = [[r for r in header if r[1:3] == wanted] for wanted in ((1048, 4), (1049, 8), (1050, 8))]
+    if not all(have) or len({r[0][4] for r in have}) != 1:
+        refuse(25, 0)
+    flags, names, versions = (elements(r[0][2], r[0][4], r[0][6]) for r in have)
+    if name + b'\0' not in names:
+        refuse(25, 0)
+    k = names.index(name + b'\0')
+    flagged = int.from_bytes(flags[k], 'big') & 0x0E
+    relation = {'older': 0x02, 'newer': 0x04, 'same': 0x08}[order(version, versions[k][:-1])]
+    return 'no' if flagged and not flagged & relation else 'yes'
+
+
 def written(p, args):
-    number = [int(a) for a in args[1:]] if args[0] != 'requires' else []
+    if args[0] == 'requires':
+        return required(p, args[1].encode()).hex() + '\n'
+    if args[0] == 'meets':
+        return meets(p, args[1].encode(), args[2].encode()) + '\n'
+    if args[0] == 'compare':
+        return order(args[1].encode(), args[2].encode()) + '\n'
+    number = [int(a) for a in args[1:]]
     if args[0] == 'index':
         return ''.join('%d %d %d %d %d\n' % r[:5] for r in opened(p)[0 if number[0] == 0 else 1])
     if args[0] == 'find':
         record = entry(p, *number)
         return '0 %d\n%s\n' % (record[5], record[6].hex())
-    if args[0] == 'element':
-        record = entry(p, *number[:3])
-        parts = elements(record[2], record[4], record[6])
-        if number[3] >= len(parts):
-            refuse(26, 0)
-        return '0 %d\n%s\n' % (record[5] + sum(map(len, parts[:number[3]])), parts[number[3]].hex())
-    return required(p, args[1].encode()).hex() + '\n'
+    record = entry(p, *number[:3])
+    parts = elements(record[2], record[4], record[6])
+    if number[3] >= len(parts):
+        refuse(26, 0)
+    return '0 %d\n%s\n' % (record[5] + sum(map(len, parts[:number[3]])), parts[number[3]].hex())
 
 
 def expected(p, args):
@@ -147,7 +178,9 @@ def expected(p, args):
 
 
 def package(spec):
-    """The bytes of a package that a case names."""
+    """The bytes of a package that a case names; none for a closed input."""
+    if spec == '-':
+        return b''
     tests = HERE.parent
     changed, _, size = spec.partition(':')
     file, *puts = changed.split('@')

@@ -1,8 +1,9 @@
-// The program that shows what a package holds.
-// It reads the package from standard input; its arguments say what to show: an index, the data of an entry or of an
-// element, or the version required for a name.
+// The program that shows what a package holds, and which of two versions is newer.
+// Its arguments say what to show: an index, the data of an entry or of an element, the version required for a name, whether a
+// version meets it, or how one version stands to another. It reads the package, where one is asked of, from standard input.
 mod request;
 mod show;
+mod versions;
 
 use places::FileOffset;
 use request::Request;
@@ -10,7 +11,7 @@ use request::Request;
 // One byte more than a package may have, so that a longer input is refused.
 const ROOM: usize = FileOffset::LIMIT + 1;
 
-// Shows what is asked of a package.
+// Shows what is asked.
 fn answer(asked: Request, pkg: &[u8]) {
     match asked {
         Request::Index(which) => show::put_index(pkg, which),
@@ -23,14 +24,17 @@ fn answer(asked: Request, pkg: &[u8]) {
             elements::find_element(pkg, which, tag, ty, k),
         ),
         Request::Requires => show::put_required(pkg),
+        Request::Meets => versions::put_meets(pkg),
+        Request::Compare => versions::put_compared(),
+        Request::TooLong => versions::put_too_long(),
         Request::Unknown => show::put_usage(),
     }
 }
 
 fn main() {
     let asked = request::of_arguments();
-    if let Request::Unknown = asked {
-        show::put_usage();
+    if !request::of_package(asked) {
+        answer(asked, b"");
         return;
     }
     let mut room = [0u8; ROOM];

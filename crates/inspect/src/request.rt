@@ -1,13 +1,26 @@
 // What the program's arguments ask for.
 use text::Parsed;
 
-// A request by its numbers: structure, tag, type and element. The name of a required version is read where it is used.
+// A request by its numbers: structure, tag, type and element. Names and version texts are read where they are used.
 pub enum Request {
     Index(u32),
     Find(u32, u32, u32),
     Element(u32, u32, u32, u32),
     Requires,
+    Meets,
+    Compare,
+    TooLong,
     Unknown,
+}
+
+// Whether a request is one of a package.
+pub(crate) fn of_package(asked: Request) -> bool {
+    match asked {
+        Request::Compare => false,
+        Request::TooLong => false,
+        Request::Unknown => false,
+        _ => true,
+    }
 }
 
 // The number that argument `i` is.
@@ -59,6 +72,23 @@ fn element() -> Request {
     Request::Element(which, tag, ty, k)
 }
 
+// Whether argument `i` fits the buffer for a text.
+fn fits(i: usize) -> bool {
+    let mut word = io::large_buffer();
+    os::arg(i, &mut word);
+    os::errno() == 0
+}
+
+// A request of two texts, `compare LEFT RIGHT` or `meets NAME VERSION`.
+fn of_texts(asked: Request) -> Request {
+    if fits(2) {
+        if fits(3) {
+            return asked;
+        }
+    }
+    Request::TooLong
+}
+
 // What a command asks for. `count` is the number of arguments, the program's name and the command among them.
 fn command(word: &[u8], count: usize) -> Request {
     if count == 3 {
@@ -67,6 +97,14 @@ fn command(word: &[u8], count: usize) -> Request {
         }
         if be::same(word, b"requires") {
             return Request::Requires;
+        }
+    }
+    if count == 4 {
+        if be::same(word, b"compare") {
+            return of_texts(Request::Compare);
+        }
+        if be::same(word, b"meets") {
+            return of_texts(Request::Meets);
         }
     }
     if count == 5 {

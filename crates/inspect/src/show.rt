@@ -10,7 +10,7 @@ use walk::Position;
 // How many bytes are spelled in hex at a time.
 const PART: usize = 2048;
 
-fn put(bytes: &[u8]) {
+pub(crate) fn put(bytes: &[u8]) {
     io::write_all(STDOUT_FILENO, bytes);
 }
 
@@ -24,7 +24,7 @@ fn put_line(numbers: &[u32])
 }
 
 // The line of a refusal.
-fn put_refusal(number: u32, place: u32) {
+pub(crate) fn put_refusal(number: u32, place: u32) {
     put(b"refused ");
     io::print_decimal(STDOUT_FILENO, number as u64);
     put(b" at ");
@@ -116,11 +116,15 @@ pub(crate) fn put_unread() {
 }
 
 pub(crate) fn put_usage() {
-    put(b"usage: inspect index STRUCTURE\n");
-    put(b"       inspect find STRUCTURE TAG TYPE\n");
-    put(b"       inspect element STRUCTURE TAG TYPE NUMBER\n");
-    put(b"       inspect requires NAME\n");
     put(
-        b"It reads a package from standard input. STRUCTURE is 0 for the signature, else the header.\n",
+        b"usage: inspect index STRUCTURE
+       inspect find STRUCTURE TAG TYPE
+       inspect element STRUCTURE TAG TYPE NUMBER
+       inspect requires NAME
+       inspect meets NAME VERSION
+       inspect compare LEFT RIGHT
+It reads a package from standard input, but for compare, which reads nothing.
+STRUCTURE is 0 for the signature, else the header.
+",
     );
 }
