@@ -367,7 +367,9 @@ fn damaged(desk: &mut Desk, random: &mut Random) {
             let known = Some(Answer::new(number, place));
             let version = Text::made(random, runs);
             desk.meets(&one.name, &version.bytes, known);
-            desk.meets(b"absent", b"", known);
+            for name in [&b"absent"[..], b"", b"with\0zero"] {
+                desk.meets(name, b"", known);
+            }
         };
         for damage in damage::all(&made, random) {
             let mut bytes = bytes.clone();
