@@ -84,11 +84,11 @@ pub struct Desk<'a> {
 }
 
 impl Desk<'_> {
-    /// Both ways round, and the left one with itself.
-    pub fn pair(&mut self, left: &Text, right: &Text) {
+    /// Both ways round, and the left one with itself; gives the first answer.
+    pub fn pair(&mut self, left: &Text, right: &Text) -> u32 {
         self.lend(left);
         self.with_itself(left);
-        self.against(left, right);
+        self.against(left, right)
     }
 
     /// Lends a text as the left one of the next pairs.
@@ -96,19 +96,20 @@ impl Desk<'_> {
         self.memory.lent = self.memory.left.lend(&left.bytes);
     }
 
-    /// The text that was lent against this one, both ways round.
-    pub fn against(&mut self, left: &Text, right: &Text) {
+    /// The text that was lent against this one, both ways round; gives the first answer.
+    pub fn against(&mut self, left: &Text, right: &Text) -> u32 {
         let lent = self.memory.lent;
         let other = self.memory.right.lend(&right.bytes);
         let order = left.order(right);
         self.report(&left.bytes, &right.bytes);
-        self.compare((lent, &left.bytes), (other, &right.bytes), Some(order));
+        let answer = self.compare((lent, &left.bytes), (other, &right.bytes), Some(order));
         self.report(&right.bytes, &left.bytes);
         self.compare(
             (other, &right.bytes),
             (lent, &left.bytes),
             Some(order.reverse()),
         );
+        answer
     }
 
     /// The text that was lent against itself, in the same memory.

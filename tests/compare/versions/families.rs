@@ -260,23 +260,6 @@ fn many_runs(desk: &mut Desk, random: &mut Random) {
     }
 }
 
-/// Changes a byte, puts one in or takes one out.
-fn changed(random: &mut Random, text: &[u8], bytes: &[u8]) -> Vec<u8> {
-    let mut text = text.to_vec();
-    for _ in 0..1 + random.below(3) {
-        let at = random.below(text.len() + 1);
-        match random.below(3) {
-            0 => text.insert(at, random.pick(bytes)),
-            1 if at < text.len() => text[at] = random.pick(bytes),
-            _ if at < text.len() => {
-                text.remove(at);
-            }
-            _ => {}
-        }
-    }
-    text
-}
-
 /// Bytes of any value, and of a few values; pairs that are almost alike.
 fn any_bytes(desk: &mut Desk, random: &mut Random) {
     let all: Vec<u8> = (0..=255).collect();

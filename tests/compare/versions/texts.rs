@@ -217,3 +217,20 @@ pub fn nudge(random: &mut Random, run: &mut Run) {
         _ => bytes.push(byte),
     }
 }
+
+/// Changes a byte, puts one in or takes one out.
+pub fn changed(random: &mut Random, text: &[u8], bytes: &[u8]) -> Vec<u8> {
+    let mut text = text.to_vec();
+    for _ in 0..1 + random.below(3) {
+        let at = random.below(text.len() + 1);
+        match random.below(3) {
+            0 => text.insert(at, random.pick(bytes)),
+            1 if at < text.len() => text[at] = random.pick(bytes),
+            _ if at < text.len() => {
+                text.remove(at);
+            }
+            _ => {}
+        }
+    }
+    text
+}
