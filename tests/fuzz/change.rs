@@ -352,8 +352,7 @@ fn change_group(package: &mut Package, random: &mut Random) {
     }
 }
 
-/// Names, versions and flags of one count, a name twice among them; sometimes one of them of
-/// another count or type, or in the place of another.
+/// Names, versions and flags of one count; sometimes one of them of another count or type.
 fn change_requirements(header: &mut Structure, random: &mut Random) {
     let count = random.pick(&[1, 2, 3, 5, 5, 260]);
     for (tag, ty) in [(1048, 4), (1049, 8), (1050, 8)] {
