@@ -252,11 +252,10 @@ COMPARED = "        let relation = match compare(given, self.version) {\n"
 EQUAL = "            Ordering::Equal => EQUAL,\n"
 FLAGGED = "        let flagged = self.flags & (LESS | GREATER | EQUAL);\n"
 MET = "        flagged == 0 || flagged & relation != 0\n"
-FOUND = "        let (position, version) = self.required(name)?;\n"
 FLAGS_ENTRY = "        let flags = self.record(1048, INT32)?;\n"
-COUNT = "        if flags.count != names.count {\n"
-FLAGS = "            flags: self.numbers(flags).nth(position)?,\n"
-WHOLE_VERSION = "            version: version.strip_suffix(&[0])?,\n"
+COUNT = "        if flags.count != required.count {\n"
+FLAGS = "            flags: self.numbers(flags).nth(required.position)?,\n"
+WHOLE_VERSION = "            version: required.version.strip_suffix(&[0])?,\n"
 ASKED = "    let requirement = sound(package)?.header.requirement(name);\n"
 CHECK_25 = "    check(25, requirement.is_some(), 0)?;\n"
 PLACE = "        Ok(yes) => u64::from(yes),\n"
@@ -265,8 +264,8 @@ PLACE = "        Ok(yes) => u64::from(yes),\n"
 NAMES_ENTRY = "        let names = self.record(1049, STRING_ARRAY)?;\n        let versions"
 VERSIONS_ENTRY = "        let versions = self.record(1050, STRING_ARRAY)?;\n"
 ONE_COUNT = "        if names.count != versions.count {\n            return None;\n        }\n        let position = self\n"
-EQUAL_NAME = "            .position(|string| string.strip_suffix(&[0]) == Some(name))?;\n        let version"
-BESIDE = "        let version = self.strings(versions).nth(position)?;\n"
+EQUAL_NAME = "            .position(|string| string.strip_suffix(&[0]) == Some(name))?;\n"
+BESIDE = "            version: self.strings(versions).nth(position)?,\n"
 
 
 def relations(less, greater, equal):
@@ -275,7 +274,7 @@ def relations(less, greater, equal):
 
 def equal_name(test):
     """Another test of `string`, with its zero byte, against `name`."""
-    return EQUAL_NAME, f"            .position(|string| {test})?;\n        let version"
+    return EQUAL_NAME, f"            .position(|string| {test})?;\n"
 
 
 def asked_first(text):
@@ -332,13 +331,13 @@ REQUIREMENT = [
     ("an empty required version means any", MET, "        self.version.is_empty() || " + MET.lstrip()),
     ("flags of the first name", *flags("self.numbers(flags).next()?")),
     ("flags of the last name", *flags("self.numbers(flags).last()?")),
-    ("flags of the name behind", *flags("self.numbers(flags).nth((position + 1) % flags.count as usize)?")),
-    ("flags of the name before", *flags("self.numbers(flags).nth(position.saturating_sub(1))?")),
+    ("flags of the name behind", *flags("self.numbers(flags).nth((required.position + 1) % flags.count as usize)?")),
+    ("flags of the name before", *flags("self.numbers(flags).nth(required.position.saturating_sub(1))?")),
     ("flags of all names together", *flags("self.numbers(flags).fold(0, |all, one| all | one)")),
-    ("flags little-endian", *flags("self.numbers(flags).nth(position)?.swap_bytes()")),
-    ("flags' highest byte", *flags("self.numbers(flags).nth(position)? >> 24")),
-    ("flags' halves exchanged", *flags("self.numbers(flags).nth(position)?.rotate_left(16)")),
-    ("flags' number in 8 bits", *flags("self.numbers(flags).nth(position & 0xFF)?")),
+    ("flags little-endian", *flags("self.numbers(flags).nth(required.position)?.swap_bytes()")),
+    ("flags' highest byte", *flags("self.numbers(flags).nth(required.position)? >> 24")),
+    ("flags' halves exchanged", *flags("self.numbers(flags).nth(required.position)?.rotate_left(16)")),
+    ("flags' number in 8 bits", *flags("self.numbers(flags).nth(required.position & 0xFF)?")),
     ("1048 of int16, too", FLAGS_ENTRY, FLAGS_ENTRY.replace("?;", ".or(self.record(1048, 3))?;")),
     ("1048 of int8, too", FLAGS_ENTRY, FLAGS_ENTRY.replace("?;", ".or(self.record(1048, 2))?;")),
     ("1048 of bin, too", FLAGS_ENTRY, FLAGS_ENTRY.replace("?;", ".or(self.record(1048, 7))?;")),
@@ -346,14 +345,14 @@ REQUIREMENT = [
     ("1047 in place of 1048", FLAGS_ENTRY, FLAGS_ENTRY.replace("1048", "1047")),
     ("without 1048 any version", FLAGS_ENTRY,
      "        let Some(flags) = self.record(1048, INT32) else {\n"
-     "            return Some(Requirement { flags: 0, version });\n        };\n"),
+     "            return Some(Requirement { flags: 0, version: required.version });\n        };\n"),
     ("without 1048 an equal version", FLAGS_ENTRY,
      "        let Some(flags) = self.record(1048, INT32) else {\n"
-     "            return Some(Requirement { flags: EQUAL, version });\n        };\n"),
+     "            return Some(Requirement { flags: EQUAL, version: required.version });\n        };\n"),
     ("1048's count not tested", COUNT, "        if false {\n"),
     ("1048 may be longer", COUNT, COUNT.replace("!=", "<")),
     ("1048 may be shorter", COUNT, COUNT.replace("!=", ">")),
-    ("1048's count in 8 bits", COUNT, COUNT.replace("flags.count != names.count", "flags.count as u8 != names.count as u8")),
+    ("1048's count in 8 bits", COUNT, COUNT.replace("flags.count != required.count", "flags.count as u8 != required.count as u8")),
     ("the signature's three, too", ASKED,
      "    let opened = sound(package)?;\n"
      "    let requirement = opened.header.requirement(name).or(opened.signature.requirement(name));\n"),
@@ -363,10 +362,10 @@ REQUIREMENT = [
     ("the signature's 1048, too", ASKED,
      "    let opened = sound(package)?;\n"
      "    let requirement = opened.header.requirement(name).or_else(|| {\n"
-     "        let (position, version) = opened.header.required(name)?;\n"
+     "        let required = opened.header.required(name)?;\n"
      "        let flags = opened.signature.record(1048, INT32)?;\n"
-     "        let flags = opened.signature.numbers(flags).nth(position)?;\n"
-     "        Some(Requirement { flags, version })\n    });\n"),
+     "        let flags = opened.signature.numbers(flags).nth(required.position)?;\n"
+     "        Some(Requirement { flags, version: required.version })\n    });\n"),
     ("the signature alone", ASKED, ASKED.replace("header", "signature")),
     ("1049 of type 9, too", NAMES_ENTRY, NAMES_ENTRY.replace("?;", ".or(self.record(1049, 9))?;")),
     ("1049 of a string, too", NAMES_ENTRY, NAMES_ENTRY.replace("?;", ".or(self.record(1049, STRING))?;")),
@@ -378,7 +377,7 @@ REQUIREMENT = [
     ("1050 may be shorter", ONE_COUNT, ONE_COUNT.replace("!=", "<")),
     ("the last equal name", EQUAL_NAME,
      "            .enumerate()\n            .filter(|(_, string)| string.strip_suffix(&[0]) == Some(name))\n"
-     "            .last()?\n            .0;\n        let version"),
+     "            .last()?\n            .0;\n"),
     ("names by prefix", *equal_name("string.starts_with(name)")),
     ("names that the lent one begins with", *equal_name("name.starts_with(string.strip_suffix(&[0]).unwrap())")),
     ("names in any case", *equal_name("string.strip_suffix(&[0]).unwrap().eq_ignore_ascii_case(name)")),
@@ -399,11 +398,12 @@ REQUIREMENT = [
     ("an empty name matches any", *equal_name("name.is_empty() || string.strip_suffix(&[0]) == Some(name)")),
     ("256 names looked through", EQUAL_NAME, "            .take(256)\n" + EQUAL_NAME),
     ("first name not looked at", EQUAL_NAME, "            .enumerate()\n            .skip(1)\n"
-     "            .find(|(_, string)| string.strip_suffix(&[0]) == Some(name))?\n            .0;\n        let version"),
+     "            .find(|(_, string)| string.strip_suffix(&[0]) == Some(name))?\n            .0;\n"),
     ("version of the first name", BESIDE, BESIDE.replace("nth(position)", "next()")),
     ("version of the name behind", BESIDE, BESIDE.replace("nth(position)", "nth((position + 1) % versions.count as usize)")),
     ("version's number in 8 bits", BESIDE, BESIDE.replace("nth(position)", "nth(position & 0xFF)")),
-    ("a required name is its own version", WHOLE_VERSION, "            version: self.strings(names).nth(position)?,\n"),
+    ("a required name is its own version", WHOLE_VERSION,
+     "            version: self.strings(self.record(1049, super::STRING_ARRAY)?).nth(required.position)?,\n"),
     ("25 before the checks for a name with a zero byte", *asked_first("check(25, !name.contains(&0), 0)?;")),
     ("25 before the checks for an empty name", *asked_first("check(25, !name.is_empty(), 0)?;")),
     ("25 before the checks for an empty version", *asked_first("check(25, !version.is_empty(), 0)?;")),

@@ -374,18 +374,16 @@ pub fn find_element(
     Ok(structure.in_file(part.expect("check 12 passed")))
 }
 
-/// The header's 1050 string beside the first 1049 string that equals `name`,
-/// with its zero byte; empty where there is none.
-pub fn required_version<'a>(package: &'a [u8], name: &[u8]) -> &'a [u8] {
-    let required = sound(package)
-        .ok()
-        .and_then(|opened| opened.header.required(name));
-    required.map_or(&[], |(_, version)| version)
+/// A required name: which of how many it is, and its version with the zero byte.
+struct Required<'a> {
+    position: usize,
+    count: u32,
+    version: &'a [u8],
 }
 
 impl<'a> Structure<'a> {
-    /// The number of the first 1049 string that equals `name`, and the 1050 string beside it.
-    fn required(&self, name: &[u8]) -> Option<(usize, &'a [u8])> {
+    /// The first 1049 string that equals `name`, and the 1050 string beside it.
+    fn required(&self, name: &[u8]) -> Option<Required<'a>> {
         let names = self.record(1049, STRING_ARRAY)?;
         let versions = self.record(1050, STRING_ARRAY)?;
         if names.count != versions.count {
@@ -394,9 +392,20 @@ impl<'a> Structure<'a> {
         let position = self
             .strings(names)
             .position(|string| string.strip_suffix(&[0]) == Some(name))?;
-        let version = self.strings(versions).nth(position)?;
-        Some((position, version))
+        Some(Required {
+            position,
+            count: names.count,
+            version: self.strings(versions).nth(position)?,
+        })
     }
+}
+
+/// The version that the header requires of `name`, with its zero byte; empty where there is
+/// none.
+pub fn required_version<'a>(package: &'a [u8], name: &[u8]) -> &'a [u8] {
+    let opened = sound(package).ok();
+    let required = opened.and_then(|opened| opened.header.required(name));
+    required.map_or(&[], |required| required.version)
 }
 
 // ---- Index walk ----

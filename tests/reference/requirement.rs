@@ -3,7 +3,7 @@
 use std::cmp::Ordering;
 
 use super::version::compare;
-use super::{check, sound, Checked, Structure, INT32, STRING_ARRAY};
+use super::{check, sound, Checked, Structure, INT32};
 
 // Relations, in a required name's flags.
 const LESS: u32 = 0x02;
@@ -32,15 +32,14 @@ impl<'a> Structure<'a> {
     /// What the header requires of a name: the flags and the version beside the first equal
     /// name.
     fn requirement(&self, name: &[u8]) -> Option<Requirement<'a>> {
-        let (position, version) = self.required(name)?;
-        let names = self.record(1049, STRING_ARRAY)?;
+        let required = self.required(name)?;
         let flags = self.record(1048, INT32)?;
-        if flags.count != names.count {
+        if flags.count != required.count {
             return None;
         }
         Some(Requirement {
-            flags: self.numbers(flags).nth(position)?,
-            version: version.strip_suffix(&[0])?,
+            flags: self.numbers(flags).nth(required.position)?,
+            version: required.version.strip_suffix(&[0])?,
         })
     }
 }

@@ -239,7 +239,14 @@ fn types_and_counts(desk: &mut Desk, random: &mut Random) {
                 in_signature(desk, random, &all, &without, &entry);
             }
             ask_none(desk, random, &all, &[]);
-            // The signature's own three say nothing.
+            // The signature's own three say nothing, whatever the header lacks ..
+            let but_names = [right[0].clone(), right[2].clone()];
+            for header in [&right[1..], &but_names, &right[..2], &[]] {
+                let mut made = package(random, header);
+                made.signature = structure(random, right.to_vec());
+                ask_none_of(desk, &all, &made);
+            }
+            // .. and where it lacks nothing.
             let mut made = package(random, &right);
             let contrary: Vec<Required> = all
                 .iter()
