@@ -32,6 +32,9 @@ const SIGBUS: i32 = 7;
 const SIGSEGV: i32 = 11;
 const SIGALRM: i32 = 14;
 
+/// How long a family may take, in seconds.
+const LIMIT: u32 = 300;
+
 /// A look-up to ask for; `element` is `None` for a whole entry.
 #[derive(Clone, Copy, Debug)]
 pub struct Question {
@@ -198,7 +201,7 @@ impl Bench {
         for number in [SIGILL, SIGABRT, SIGBUS, SIGSEGV, SIGALRM] {
             unsafe { signal(number, on_signal) };
         }
-        bench.limit(300);
+        bench.limit(LIMIT);
         bench
     }
 
@@ -211,6 +214,7 @@ impl Bench {
     pub fn begins(&mut self, family: &'static str) -> bool {
         self.current.family = family;
         self.current.case = 0;
+        self.limit(LIMIT);
         self.only.as_ref().map_or(true, |only| only == family)
     }
 

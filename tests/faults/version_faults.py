@@ -427,7 +427,7 @@ REQUIREMENT = [
     ("no for a name that is not there", CHECK_25, ""),
     ("yes for a name that is not there", CHECK_25, "    if requirement.is_none() {\n        return Ok(true);\n    }\n"),
     ("no for a name with a zero byte", CHECK_25, "    if name.contains(&0) {\n        return Ok(false);\n    }\n" + CHECK_25),
-    ("yes and no exchanged", PLACE, PLACE.replace("(yes)", "(!yes)")),
+    ("yes and no exchanged", PLACE, PLACE.replace("from(yes)", "from(!yes)")),
     ("yes is 2", PLACE, PLACE.replace("u64::from(yes)", "2 * u64::from(yes)")),
     ("no is 25", PLACE, "        Ok(false) => 25 << 32,\n        Ok(true) => 1,\n"),
     ("reads behind the package", *asked_first(

@@ -163,7 +163,8 @@ fn names(desk: &mut Desk, random: &mut Random) {
         let one = vec![b'n'; length];
         let all = [Required::new(&one, b"2", 8)];
         desk.bench.package(&package(random, &entries(&all)).bytes());
-        for other in [length.saturating_sub(1), length, length + 1, length + 256] {
+        let less = [1, 256].map(|less| length.saturating_sub(less));
+        for other in less.into_iter().chain([length, length + 1, length + 256]) {
             ask(desk, &all, &vec![b'n'; other], &versions[1]);
             ask(desk, &all, &vec![b'n'; other], &versions[2]);
         }
