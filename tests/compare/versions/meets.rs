@@ -6,7 +6,7 @@ use super::texts::{otherwise, some_runs, Run, Text};
 use crate::bench::Answer;
 use crate::damage;
 use crate::families::change;
-use crate::maker::{Entry, Package};
+use crate::maker::{size_of, Entry, Package};
 use crate::random::Random;
 
 /// All families with their names, in the order in which they run.
@@ -111,7 +111,7 @@ fn all_flags(desk: &mut Desk, random: &mut Random) {
         }
     }
     for _ in 0..500 {
-        let all = [0; 3].map(|at| Required::new(&[b'a' + at], b"5", random.number()));
+        let all = [b"a", b"b", b"c"].map(|name| Required::new(name, b"5", random.number()));
         desk.bench.package(&package(random, &entries(&all)).bytes());
         for (name, version) in [(b"a", "4"), (b"a", "5"), (b"a", "6"), (b"b", "5")] {
             ask(desk, &all, name, &Text::of(version.as_bytes()));
@@ -137,20 +137,9 @@ fn names(desk: &mut Desk, random: &mut Random) {
         all[one].name = all[other].name.clone();
         all[one].version = random.pick(&[&b"1"[..], b"3", b""]).to_vec();
         desk.bench.package(&package(random, &entries(&all)).bytes());
-        for at in 0..all.len() {
+        for one in &all {
             for version in &versions {
-                let whole = all[at].name.clone();
-                ask(desk, &all, &whole, version);
-                ask(desk, &all, &whole[..whole.len().saturating_sub(1)], version);
-                ask(desk, &all, &whole[whole.len().min(1)..], version);
-                ask(desk, &all, &[&whole[..], b"s"].concat(), version);
-                ask(desk, &all, &whole.to_ascii_uppercase(), version);
-                for place in 0..=whole.len() {
-                    let (front, behind) = whole.split_at(place);
-                    let with_zero = [front, &[0], behind].concat();
-                    ask(desk, &all, &with_zero, version);
-                    ask(desk, &all, &[front, &[0]].concat(), version);
-                }
+                names_like(desk, &all, &one.name, version);
             }
         }
         let both = [&all[0].name[..], &[0], &all[1].name].concat();
@@ -158,15 +147,34 @@ fn names(desk: &mut Desk, random: &mut Random) {
             ask(desk, &all, other, &versions[1]);
         }
     }
-    // One name, and a long one.
+    long_names(desk, random);
+}
+
+/// Asks for a name, for parts of it and longer ones, and for it with a zero byte at each
+/// place.
+fn names_like(desk: &mut Desk, all: &[Required], name: &[u8], version: &Text) {
+    ask(desk, all, name, version);
+    ask(desk, all, &name[..name.len().saturating_sub(1)], version);
+    ask(desk, all, &name[name.len().min(1)..], version);
+    ask(desk, all, &[name, b"s"].concat(), version);
+    ask(desk, all, &name.to_ascii_uppercase(), version);
+    for place in 0..=name.len() {
+        let (front, behind) = name.split_at(place);
+        ask(desk, all, &[front, &[0], behind].concat(), version);
+        ask(desk, all, &[front, &[0]].concat(), version);
+    }
+}
+
+/// One name of up to 20,000 bytes; others of one more and less, and of 256.
+fn long_names(desk: &mut Desk, random: &mut Random) {
     for length in [0, 1, 100, 255, 256, 257, 20_000] {
-        let one = vec![b'n'; length];
-        let all = [Required::new(&one, b"2", 8)];
+        let all = [Required::new(&vec![b'n'; length], b"2", 8)];
         desk.bench.package(&package(random, &entries(&all)).bytes());
         let less = [1, 256].map(|less| length.saturating_sub(less));
         for other in less.into_iter().chain([length, length + 1, length + 256]) {
-            ask(desk, &all, &vec![b'n'; other], &versions[1]);
-            ask(desk, &all, &vec![b'n'; other], &versions[2]);
+            for version in [b"2", b"3"] {
+                ask(desk, &all, &vec![b'n'; other], &Text::of(version));
+            }
         }
     }
 }
@@ -186,27 +194,18 @@ fn ask_none_of(desk: &mut Desk, all: &[Required], package: &Package) {
     }
 }
 
-/// An entry with the same bytes as one of another type.
+/// An entry of another type with the same bytes, and zero bytes up to a whole element.
 fn with_type(entry: &Entry, ty: u32) -> Entry {
-    let bytes = entry.elements.concat();
-    let size = match ty {
-        3 => 2,
-        4 => 4,
-        6 | 8 | 9 => {
-            let elements = entry.elements.clone();
-            let tag = entry.tag;
-            return Entry { tag, ty, elements };
+    let elements = match size_of(ty) {
+        None => entry.elements.clone(),
+        Some(size) => {
+            let mut bytes = entry.elements.concat();
+            bytes.resize(bytes.len().next_multiple_of(size), 0);
+            bytes.chunks(size).map(<[u8]>::to_vec).collect()
         }
-        _ => 1,
     };
-    let mut padded = bytes;
-    padded.resize(padded.len().next_multiple_of(size), 0);
-    let elements = padded.chunks(size).map(|element| element.to_vec());
-    Entry {
-        tag: entry.tag,
-        ty,
-        elements: elements.collect(),
-    }
+    let tag = entry.tag;
+    Entry { tag, ty, elements }
 }
 
 /// As many elements of another type as there are requirements.
@@ -322,93 +321,101 @@ fn in_signature(
 fn shared(desk: &mut Desk, random: &mut Random) {
     for _ in 0..400 {
         let count = 1 + random.below(4);
-        let (mut all, _) = some(random, count);
-        for one in &mut all {
-            one.version = one.name.clone();
-        }
-        let mut made = package(random, &entries(&all));
-        let records = &mut made.header.records;
-        let place =
-            |records: &[[u32; 4]], tag| records.iter().position(|one| one[0] == tag).unwrap();
-        let (names_at, versions_at) = (place(records, NAMES), place(records, VERSIONS));
-        records[versions_at][2] = records[names_at][2];
-        desk.bench.package(&made.bytes());
-        for one in &all {
-            let version = Text::of(&one.version);
-            ask(desk, &all, &one.name, &version);
-            let any = some_runs(random, 2);
-            ask(desk, &all, &one.name, &Text::made(random, &any));
-        }
+        let (all, _) = some(random, count);
+        names_as_versions(desk, random, all.clone());
+        version_in_name(desk, random, &all[0]);
+    }
+}
 
-        // The one version is the name's tail; the flags are seen as bytes too.
-        let name = [&b"glass-"[..], &all[0].name].concat();
-        let tail = random.below(name.len() + 1);
-        let one = [Required::new(&name, &name[tail..], all[0].flags)];
-        let mut made = package(random, &entries(&one));
-        let records = &mut made.header.records;
-        let (names_at, versions_at) = (place(records, NAMES), place(records, VERSIONS));
-        records[versions_at][2] = records[names_at][2] + tail as u32;
-        let flags = records[place(records, FLAGS)];
-        records.push([3000, 7, flags[2], 4]);
-        desk.bench.package(&made.bytes());
-        for version in [&name[tail..], &name, b"", b"1"] {
-            ask(desk, &one, &name, &Text::of(version));
-        }
+/// The header's record of a tag.
+fn record(package: &mut Package, tag: u32) -> &mut [u32; 4] {
+    let mut records = package.header.records.iter_mut();
+    records.find(|record| record[0] == tag).expect("a record")
+}
+
+/// Each name is its own version.
+fn names_as_versions(desk: &mut Desk, random: &mut Random, mut all: Vec<Required>) {
+    for one in &mut all {
+        one.version = one.name.clone();
+    }
+    let mut made = package(random, &entries(&all));
+    record(&mut made, VERSIONS)[2] = record(&mut made, NAMES)[2];
+    desk.bench.package(&made.bytes());
+    for one in &all {
+        ask(desk, &all, &one.name, &Text::of(&one.version));
+        let any = some_runs(random, 2);
+        ask(desk, &all, &one.name, &Text::made(random, &any));
+    }
+}
+
+/// The one version is the name's tail; the flags are seen as bytes too.
+fn version_in_name(desk: &mut Desk, random: &mut Random, one: &Required) {
+    let name = [&b"glass-"[..], &one.name].concat();
+    let tail = random.below(name.len() + 1);
+    let all = [Required::new(&name, &name[tail..], one.flags)];
+    let mut made = package(random, &entries(&all));
+    record(&mut made, VERSIONS)[2] = record(&mut made, NAMES)[2] + tail as u32;
+    let flags = record(&mut made, FLAGS)[2];
+    made.header.records.push([3000, 7, flags, 4]);
+    desk.bench.package(&made.bytes());
+    for version in [&name[tail..], &name, b"", b"1"] {
+        ask(desk, &all, &name, &Text::of(version));
     }
 }
 
 /// Each damage of checks 4, 6 to 13 and 28, cuts, and packages that are too large: their
-/// answer, whatever is asked.
+/// answer, whatever is asked. Every second one has no requirement that could be found.
 fn damaged(desk: &mut Desk, random: &mut Random) {
     for round in 0..24 {
         let count = 1 + random.below(3);
-        let (all, runs) = some(random, count);
-        // Every second one has no requirement that could be found: 25 comes behind.
+        let (all, _) = some(random, count);
         let mut three = entries(&all).to_vec();
         if round % 2 == 1 {
             three.remove(random.below(3));
         }
         let made = package(random, &three);
         let bytes = made.bytes();
-        let (one, runs) = (&all[0], &runs[0]);
-        let refused = |desk: &mut Desk, random: &mut Random, number, place| {
-            let known = Some(Answer::new(number, place));
-            let version = Text::made(random, runs);
-            desk.meets(&one.name, &version.bytes, known);
-            for name in [&b"absent"[..], b"", b"with\0zero"] {
-                desk.meets(name, b"", known);
-            }
-        };
         for damage in damage::all(&made, random) {
             let mut bytes = bytes.clone();
             damage.apply(&mut bytes);
             desk.bench.package(&bytes);
             desk.bench.note(damage.what);
-            refused(desk, random, damage.number, damage.place);
+            ask_refused(desk, &all[0], damage.number, damage.place);
         }
-        for length in 0..bytes.len() {
-            let Some((number, place)) = damage::cut(&made, length) else {
-                continue;
-            };
+        let cuts =
+            (0..bytes.len()).filter_map(|length| Some((length, damage::cut(&made, length)?)));
+        for (length, (number, place)) in cuts {
             desk.bench.package(&bytes[..length]);
-            refused(desk, random, number, place);
+            ask_refused(desk, &all[0], number, place);
         }
-        for size in [65_537, 70_000] {
-            let mut large = bytes.clone();
-            large.resize(size, 0);
-            desk.bench.package(&large);
-            refused(desk, random, 2, 0);
-        }
-        let mut largest = bytes.clone();
-        largest.resize(65_536, 0);
-        desk.bench.package(&largest);
         let known = match round % 2 {
-            0 => answer(&all, &one.name, &Text::of(&one.version)),
+            0 => answer(&all, &all[0].name, &Text::of(&all[0].version)),
             _ => Answer::new(25, 0),
         };
-        desk.meets(&one.name, &one.version, Some(known));
+        sizes(desk, &all[0], bytes, known);
     }
     many_records(desk, random);
+}
+
+/// A refused package: whatever is asked gets the same answer.
+fn ask_refused(desk: &mut Desk, one: &Required, number: u32, place: usize) {
+    let known = Some(Answer::new(number, place));
+    desk.meets(&one.name, &one.version, known);
+    for name in [&b"absent"[..], b"", b"with\0zero"] {
+        desk.meets(name, b"", known);
+    }
+}
+
+/// As large as allowed, and larger.
+fn sizes(desk: &mut Desk, one: &Required, mut bytes: Vec<u8>, known: Answer) {
+    bytes.resize(65_536, 0);
+    desk.bench.package(&bytes);
+    desk.meets(&one.name, &one.version, Some(known));
+    for size in [65_537, 70_000] {
+        bytes.resize(size, 0);
+        desk.bench.package(&bytes);
+        ask_refused(desk, one, 2, 0);
+    }
 }
 
 /// Among 512 records, and 513.
