@@ -483,19 +483,22 @@ pub fn versions() -> Vec<Case> {
         ("letters", "abcdefghij"),
         ("runs", "12.ab3-c_"),
     ];
+    let sizes = [
+        ("16", 16),
+        ("256", 256),
+        ("4,096", 4096),
+        ("65,536", 65_536),
+    ];
     for (name, sort) in sorts {
-        for size in [16, 256, 4096, 65_536] {
+        for (bytes, size) in sizes {
             let text: Vec<u8> = sort.bytes().cycle().take(size).collect();
-            cases.push(compare(format!("{size} bytes of {name}"), &text, &text));
+            cases.push(compare(format!("{bytes} bytes of {name}"), &text, &text));
         }
     }
-    for zeros in [16, 4096] {
+    for (count, zeros) in [("16", 16), ("4,096", 4096)] {
         let text = [&vec![b'0'; zeros][..], b"1"].concat();
-        cases.push(compare(
-            format!("{zeros} leading zeros and none"),
-            &text,
-            b"1",
-        ));
+        let name = format!("{count} leading zeros and none");
+        cases.push(compare(name, &text, b"1"));
     }
     cases
 }
