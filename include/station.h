@@ -97,14 +97,14 @@
  *
  * The checks run in this order: 1 (station_read only); 2 to 4; 5 to 13 for the
  * signature; 28; 5 to 13 for the header; then 14 to 18, 27 and 19 to 24 for
- * station_read, 25 and 26 for look-ups, 25 for station_meets. Within a structure 9 to 13 run record by
- * record. 14 and 15 run tag by tag, the signature's tags first. 20 to 22 run record by
- * record of the book. So a damaged header, or a byte before it that is not zero, is
- * reported even if you ask for an entry of the signature. Where a package ends between
- * signature and header, 28 tests the bytes that are there; if these are zero it is 5.
- * A look-up does not compare the digest: it also shows the entries of a package that
- * station_read refuses with 27; so does station_meets with what is required.
- * station_write runs 32, 33 and 34 alone, station_digest 34.
+ * station_read, 25 and 26 for look-ups, 25 for station_meets. Within a structure 9 to
+ * 13 run record by record. 14 and 15 run tag by tag, the signature's tags first. 20 to
+ * 22 run record by record of the book. So a damaged header, or a byte before it that is
+ * not zero, is reported even if you ask for an entry of the signature. Where a package
+ * ends between signature and header, 28 tests the bytes that are there; if these are
+ * zero it is 5. Look-ups and station_meets do not compare the digest: they also answer
+ * for a package that station_read refuses with 27. station_write runs 32, 33 and 34
+ * alone, station_digest 34.
  */
 #ifndef STATION_H
 #define STATION_H
@@ -307,7 +307,7 @@ uint64_t station_digest(const uint8_t *bytes, size_t bytes_len,
  *   left     right    left is
  *   "1.9"    "1.10"   older: 9 is less than 10
  *   "1.0"    "1_00"   same: separators and leading zeros do not count
- *   "1"      "1.a"    older: nothing is below letters
+ *   "1"      "1.a"    older: a missing run is below letters
  *   "1.a"    "1.1"    older: letters are below digits
  *   "2.0b"   "2.0a"   newer
  *
@@ -323,7 +323,7 @@ uint32_t station_compare(const uint8_t *left, size_t left_len,
  *
  *   package, package_len   the lent package
  *   name, name_len         the required name, without a zero byte
- *   version, version_len   the version text that is there, without one
+ *   version, version_len   the version text that is to meet it
  *
  * What a package requires stands in three entries of its header: names (1049) and
  * versions (1050), string arrays (8), and flags (1048), int32 (4), all of one count. The
@@ -334,7 +334,7 @@ uint32_t station_compare(const uint8_t *left, size_t left_len,
  *   0x04   greater: it is newer
  *   0x08   equal: it is the same
  *
- * Versions are compared as station_compare does. One flagged relation that holds
+ * Whole texts are compared, as station_compare does. One flagged relation that holds
  * suffices: 0x0C is "at least". With none of the three flagged any version will do.
  *
  * On success the number is 0 and the place is 1 if the version meets what is required,
