@@ -1,24 +1,26 @@
 /*
- * station.h: read and write an RPM package (a recipe book) from C, look into it, and
- * make a digest of bytes.
+ * station.h: read and write an RPM package (a recipe book) from C, look into it, make
+ * a digest of bytes, and say which of two versions is the newer.
  *
  * Link with libstation.a; no other library is needed.
  *
- * Lending. Every call that reads gets a whole package as a pointer and a length;
- * station_write gets a name and lists of entries in the same way, station_digest any
- * bytes. A call reads nothing outside those bytes, changes none of them, and keeps
- * nothing: when it returns, the memory is yours again. station_read also gets a dose
- * buffer, station_write a package buffer, station_digest a digest buffer; they write
- * there, and only when they succeed.
+ * Lending. Every call that reads a package gets the whole of it as a pointer and a
+ * length; station_meets also gets a name and a version text in the same way,
+ * station_compare two version texts, station_write a name and lists of entries,
+ * station_digest any bytes. A call reads nothing outside those bytes, changes none of
+ * them, and keeps nothing: when it returns, the memory is yours again. What is only
+ * read may overlap. station_read also gets a dose buffer, station_write a package
+ * buffer, station_digest a digest buffer; they write there, and only when they succeed.
  * There is no state and nothing to free, and calls may run at the same time, each
  * with a buffer of its own. The bytes may be anything, of any length; no call asks
  * you to test them first, and none fails otherwise than by its answer. No pointer
  * may be NULL, and a buffer must not overlap anything else that is lent with it.
- * What is empty, be it a package, a list, its data or a buffer, is any other
+ * What is empty, be it a package, a text, a list, its data or a buffer, is any other
  * pointer with length 0 (for an empty package the answer is number 3, place 0).
  *
- * Answers. A call answers number * 2^32 + place. Number 0 is success. Any other
- * number is the first check that the package, the question, or what is to be
+ * Answers. station_compare answers STATION_OLDER, STATION_SAME or STATION_NEWER; it
+ * refuses nothing. Every other call answers number * 2^32 + place. Number 0 is success.
+ * Any other number is the first check that the package, the question, or what is to be
  * written did not pass:
  *
  *   number  meaning                                      place
@@ -26,6 +28,8 @@
  *           look-ups: found                              file offset of the bytes
  *           station_write: written                       the package's length
  *           station_digest: done                         16
+ *           station_meets: the version was compared      1 if it meets what is
+ *                                                        required, else 0
  *    1      the edition is neither 1 nor 2               0
  *    2      the package is longer than 65,536 bytes      0
  *    3      it is shorter than a lead, 96 bytes          its length
@@ -70,7 +74,9 @@
  *           (20002); edition 2 only
  *   24      the dose buffer is too short                 how many numbers are
  *                                                        needed: two per dose
- *   25      no record has that tag and that type         0
+ *   25      look-ups: no record has that tag and that    0
+ *           type; station_meets: the package does not
+ *           say what it requires of that name
  *   26      the entry has no element of that number      0
  *   27      the signature's 1004 is not the MD5 digest   1004
  *           of the bytes from the header's start to the
@@ -91,14 +97,14 @@
  *
  * The checks run in this order: 1 (station_read only); 2 to 4; 5 to 13 for the
  * signature; 28; 5 to 13 for the header; then 14 to 18, 27 and 19 to 24 for
- * station_read, 25 and 26 for look-ups. Within a structure 9 to 13 run record by
- * record. 14 and 15 run tag by tag, the signature's tags first. 20 to 22 run record by
- * record of the book. So a damaged header, or a byte before it that is not zero, is
- * reported even if you ask for an entry of the signature. Where a package ends between
- * signature and header, 28 tests the bytes that are there; if these are zero it is 5.
- * A look-up does not compare the digest: it also shows the entries of a package that
- * station_read refuses with 27. station_write runs 32, 33 and 34 alone, station_digest
- * 34.
+ * station_read, 25 and 26 for look-ups, 25 for station_meets. Within a structure 9 to
+ * 13 run record by record. 14 and 15 run tag by tag, the signature's tags first. 20 to
+ * 22 run record by record of the book. So a damaged header, or a byte before it that is
+ * not zero, is reported even if you ask for an entry of the signature. Where a package
+ * ends between signature and header, 28 tests the bytes that are there; if these are
+ * zero it is 5. Look-ups and station_meets do not compare the digest: they also answer
+ * for a package that station_read refuses with 27. station_write runs 32, 33 and 34
+ * alone, station_digest 34.
  */
 #ifndef STATION_H
 #define STATION_H
@@ -124,6 +130,11 @@ extern "C" {
 
 /* Bytes of a digest. */
 #define STATION_DIGEST_BYTES 16
+
+/* The answers of station_compare. */
+#define STATION_OLDER 0
+#define STATION_SAME 1
+#define STATION_NEWER 2
 
 /*
  * Which doses does the book state?
@@ -274,6 +285,66 @@ uint64_t station_write(const uint8_t *name, size_t name_len,
  */
 uint64_t station_digest(const uint8_t *bytes, size_t bytes_len,
                         uint8_t *digest, size_t digest_len);
+
+/*
+ * Which of two versions is the newer?
+ *
+ *   left, left_len         a lent version text: anything, of any length, also none
+ *   right, right_len       another one, or the same
+ *
+ * The answer says what left is against right: STATION_OLDER (0), STATION_SAME (1) or
+ * STATION_NEWER (2). It is no number and place. The other way round it is the contrary,
+ * and any versions can be sorted by it.
+ *
+ * It is rpm's rule without its tilde and caret. A text is a list of runs, each as many
+ * digits, or as many letters, in a row as there are; 0 to 9, A to Z and a to z count,
+ * every other byte only separates, be it a dot, a tilde, a zero byte or one above 127.
+ * Texts are compared run by run, and the first two runs that differ decide. A missing
+ * run is the lowest, then come letters, then digits. Digits go by their value, however
+ * many there are; letters by their bytes, so capitals come before small ones, and what
+ * another run begins with comes before it.
+ *
+ *   left     right    left is
+ *   "1.9"    "1.10"   older: 9 is less than 10
+ *   "1.0"    "1_00"   same: separators and leading zeros do not count
+ *   "1"      "1.a"    older: a missing run is below letters
+ *   "1.a"    "1.1"    older: letters are below digits
+ *   "2.0b"   "2.0a"   newer
+ *
+ * The zero byte that ends a string of a package changes nothing: it separates. A version
+ * and a release in one text, "1.2-3", are the same as the version "1.2.3"; compare
+ * versions with versions.
+ */
+uint32_t station_compare(const uint8_t *left, size_t left_len,
+                         const uint8_t *right, size_t right_len);
+
+/*
+ * Does a version meet what a package requires of a name?
+ *
+ *   package, package_len   the lent package
+ *   name, name_len         the required name, without a zero byte
+ *   version, version_len   the version text that is to meet it
+ *
+ * What a package requires stands in three entries of its header: names (1049) and
+ * versions (1050), string arrays (8), and flags (1048), int32 (4), all of one count. The
+ * first name that equals the lent one, whole, has its version and its flags beside it.
+ * Three bits of the flags name relations; each other bit is ignored:
+ *
+ *   0x02   less: the lent version is older than the required one
+ *   0x04   greater: it is newer
+ *   0x08   equal: it is the same
+ *
+ * Whole texts are compared, as station_compare does. One flagged relation that holds
+ * suffices: 0x0C is "at least". With none of the three flagged any version will do.
+ *
+ * On success the number is 0 and the place is 1 if the version meets what is required,
+ * else 0. The number is 25 if no name equals the lent one (one that holds a zero byte
+ * equals none; an empty one equals an empty one), or if the three entries are not there
+ * in these types and of one count.
+ */
+uint64_t station_meets(const uint8_t *package, size_t package_len,
+                       const uint8_t *name, size_t name_len,
+                       const uint8_t *version, size_t version_len);
 
 #ifdef __cplusplus
 }

@@ -56,7 +56,7 @@ fi
 $rust --check-cfg "cfg(librpm, openssl, before)" $peers $before tests/bench/main.rs \
     --extern "reference=$out/libreference.rlib" -C "link-arg=$out/libstation.a" -o "$out/bench"
 
-# count PART-OF-A-NAME: the cases to target/bench/counts/cases, a file per call beside it
+# count PARTS-OF-NAMES: the cases to target/bench/counts/cases, a file per call beside it
 count() {
     rm -rf "$out/counts"
     command -v valgrind > /dev/null || { echo "bench: no valgrind here, nothing is counted" >&2; return; }
@@ -69,7 +69,7 @@ count() {
 case $mode in
 --build) ;;
 --check)
-    count " records, "
+    count " records, |versions "
     python3 tests/bench/report.py check "$out"
     ;;
 *)

@@ -26,6 +26,8 @@ if [ -n "$reading" ]; then
     "$out/write_test" "$out/written.rpm"
     $cc tests/c/digest_test.c "$lib" -o "$out/digest_test"
     "$out/digest_test"
+    $cc tests/c/version_test.c "$lib" -o "$out/version_test"
+    "$out/version_test"
     if command -v rpm > /dev/null; then
         rpm -K --nosignature "$out/written.rpm" > "$out/rpm.log" || { cat "$out/rpm.log" >&2; exit 1; }
         said=$(rpm -qp --nosignature \
@@ -42,6 +44,9 @@ $rust $reading tests/compare/main.rs --extern "reference=$out/libreference.rlib"
 
 echo "tests: digests, compared with md5sum and hashlib"
 tests/md5sum.sh
+
+echo "tests: versions, compared with rpm's comparison"
+tests/versions.sh
 
 if [ -n "$reading" ]; then
     echo "tests: the C calls on changed packages"

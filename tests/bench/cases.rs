@@ -4,6 +4,8 @@ use std::hint::black_box;
 use std::path::Path;
 
 use reference::digest::digest_for_c;
+use reference::requirement::meets_for_c;
+use reference::version::compare_for_c;
 use reference::writer::write_for_c;
 use reference::{reading, Record};
 
@@ -24,6 +26,10 @@ pub enum Call {
     Write,
     /// The digest of all its bytes.
     Digest,
+    /// A version against another one.
+    Compare,
+    /// Whether a version meets what is required of a name.
+    Meets,
 }
 
 #[derive(Clone, Copy, Debug, PartialEq, Eq)]
@@ -58,8 +64,10 @@ pub struct Case {
     /// The table it belongs to.
     pub group: &'static str,
     pub name: String,
-    /// A package, or the bytes that are digested.
+    /// A package, the bytes that are digested, or the left one of two versions.
     pub package: Vec<u8>,
+    /// The right one of two versions; or a required name and a version.
+    pub texts: Vec<Vec<u8>>,
     /// What the package is written from; empty for other calls.
     pub lists: Lists,
     pub call: Call,
@@ -80,6 +88,11 @@ impl Case {
             }
             Call::Write => self.reference_writes(buffer),
             Call::Digest => digest_for_c(package, &mut buffer[..openssl::DIGEST]),
+            Call::Compare => u64::from(compare_for_c(package, &black_box(&self.texts)[0])),
+            Call::Meets => {
+                let texts = black_box(&self.texts);
+                meets_for_c(package, &texts[0], &texts[1])
+            }
         }
     }
 
@@ -119,7 +132,7 @@ impl Case {
     pub fn peer(&self) -> Result<Side, &'static str> {
         match self.call {
             _ if self.is_before_and_after() => Err("none"),
-            Call::Element(..) | Call::Write => Err("none"),
+            Call::Element(..) | Call::Write | Call::Compare | Call::Meets => Err("none"),
             Call::Read(_) | Call::Find(..) if !librpm::LINKED => Err("missing"),
             Call::Read(_) | Call::Find(..) if !librpm::open(&self.package) => Err("refused"),
             Call::Read(_) | Call::Find(..) => Ok(Side::Librpm),
@@ -180,14 +193,19 @@ impl Case {
     }
 }
 
-fn read(group: &'static str, name: String, package: Vec<u8>) -> Case {
+fn on_bytes(group: &'static str, name: String, package: Vec<u8>, call: Call) -> Case {
     Case {
         group,
         name,
         package,
+        texts: Vec::new(),
         lists: Lists::default(),
-        call: Call::Read(2),
+        call,
     }
+}
+
+fn read(group: &'static str, name: String, package: Vec<u8>) -> Case {
+    on_bytes(group, name, package, Call::Read(2))
 }
 
 /// Writings of the entries that accepted packages have.
@@ -212,12 +230,10 @@ pub fn writings() -> Vec<Case> {
 /// A writing of what a package has.
 fn write(group: &'static str, name: String, package: &[u8]) -> Case {
     let lists = Lists::of(package);
+    let package = lists.package();
     Case {
-        group,
-        name,
-        package: lists.package(),
         lists,
-        call: Call::Write,
+        ..on_bytes(group, name, package, Call::Write)
     }
 }
 
@@ -286,13 +302,7 @@ pub fn digests() -> Vec<Case> {
 }
 
 fn digest(group: &'static str, name: String, bytes: Vec<u8>) -> Case {
-    Case {
-        group,
-        name,
-        package: bytes,
-        lists: Lists::default(),
-        call: Call::Digest,
-    }
+    on_bytes(group, name, bytes, Call::Digest)
 }
 
 /// The digest of each reading that comes to check 27, apart: of the bytes from the header on. An accepted
@@ -322,16 +332,6 @@ pub fn digest_parts(cases: &[Case]) -> Vec<Case> {
         }
     }
     parts
-}
-
-fn look_up(group: &'static str, name: String, package: Vec<u8>, call: Call) -> Case {
-    Case {
-        group,
-        name,
-        package,
-        lists: Lists::default(),
-        call,
-    }
 }
 
 /// The first record behind the region: for the region's tag librpm gives the whole header.
@@ -374,7 +374,7 @@ pub fn look_ups() -> Vec<Case> {
             ),
         ] {
             let name = format!("{records} records, {name}");
-            cases.push(look_up(group, name, package.clone(), call));
+            cases.push(on_bytes(group, name, package.clone(), call));
         }
     }
     cases
@@ -394,13 +394,8 @@ pub fn data(folder: &Path) -> Vec<Case> {
         ("data look-up", Call::Find(1, 1126, 6)),
     ] {
         for path in &paths {
-            cases.push(Case {
-                group,
-                name: path.file_name().unwrap().to_string_lossy().into_owned(),
-                package: std::fs::read(path).unwrap(),
-                lists: Lists::default(),
-                call,
-            });
+            let name = path.file_name().unwrap().to_string_lossy().into_owned();
+            cases.push(on_bytes(group, name, std::fs::read(path).unwrap(), call));
         }
     }
     cases
@@ -448,7 +443,7 @@ pub fn orders() -> Vec<Case> {
             let package = accepted(records, order, &USUAL);
             let first = find(&package, FIRST);
             let name = format!("{records} records, {name}");
-            cases.push(look_up("orders look-up", name, package, first));
+            cases.push(on_bytes("orders look-up", name, package, first));
         }
     }
     for records in [128, 512] {
@@ -456,6 +451,83 @@ pub fn orders() -> Vec<Case> {
             let package = accepted(records, order, &USUAL);
             let name = format!("{records} records, {name}");
             cases.push(write("orders writing", name, &package));
+        }
+    }
+    cases
+}
+
+/// A version against another one.
+fn compare(name: String, left: &[u8], right: &[u8]) -> Case {
+    Case {
+        texts: vec![right.to_vec()],
+        ..on_bytes("versions", name, left.to_vec(), Call::Compare)
+    }
+}
+
+/// Short versions; the same texts of digits, letters and runs of both, and leading zeros.
+pub fn versions() -> Vec<Case> {
+    let short = [
+        ("1.2.3", "1.2.4"),
+        ("1.10", "1.9"),
+        ("2.0-1.el9", "2.0-1.el9"),
+    ];
+    let mut cases: Vec<Case> = short
+        .iter()
+        .map(|(left, right)| {
+            let name = format!("{left} and {right}");
+            compare(name, left.as_bytes(), right.as_bytes())
+        })
+        .collect();
+    let sorts = [
+        ("digits", "1234567890"),
+        ("letters", "abcdefghij"),
+        ("runs", "12.ab3-c_"),
+    ];
+    let sizes = [
+        ("16", 16),
+        ("256", 256),
+        ("4,096", 4096),
+        ("65,536", 65_536),
+    ];
+    for (name, sort) in sorts {
+        for (bytes, size) in sizes {
+            let text: Vec<u8> = sort.bytes().cycle().take(size).collect();
+            cases.push(compare(format!("{bytes} bytes of {name}"), &text, &text));
+        }
+    }
+    for (count, zeros) in [("16", 16), ("4,096", 4096)] {
+        let text = [&vec![b'0'; zeros][..], b"1"].concat();
+        let name = format!("{count} leading zeros and none");
+        cases.push(compare(name, &text, b"1"));
+    }
+    cases
+}
+
+/// At least.
+const FLAGS: u32 = 0x0C;
+
+/// The last of several names, with the version that is required.
+pub fn requirements() -> Vec<Case> {
+    let mut cases = Vec::new();
+    for records in [64, 512] {
+        for requires in [1, 64] {
+            let plan = Plan { requires, ..USUAL };
+            let mut package = accepted(records, Order::Rising, &plan);
+            let flags = reference::find(&package, 1, 1048, 4).unwrap();
+            for four in package[flags].chunks_exact_mut(4) {
+                four.copy_from_slice(&FLAGS.to_be_bytes());
+            }
+            let last = |tag| {
+                let element = requires as u32 - 1;
+                let part = reference::find_element(&package, 1, tag, 8, element).unwrap();
+                package[part.start..part.end - 1].to_vec()
+            };
+            let texts = vec![last(1049), last(1050)];
+            let name = format!("{records} records, {requires} required");
+            cases.push(Case {
+                texts,
+                ..on_bytes("requirements", name, package, Call::Meets)
+            });
         }
     }
     cases

@@ -2,7 +2,8 @@
 //! `before_` to the front of its names, and builds with `--cfg before`.
 
 macro_rules! calls {
-    ($library:ident: $read:ident $find:ident $find_element:ident $write:ident $digest:ident) => {
+    ($library:ident: $read:ident $find:ident $find_element:ident $write:ident $digest:ident
+        $compare:ident $meets:ident) => {
         mod $library {
             use std::hint::black_box;
 
@@ -47,6 +48,20 @@ macro_rules! calls {
                     digest: *mut u8,
                     digest_len: usize,
                 ) -> u64;
+                fn $compare(
+                    left: *const u8,
+                    left_len: usize,
+                    right: *const u8,
+                    right_len: usize,
+                ) -> u32;
+                fn $meets(
+                    package: *const u8,
+                    package_len: usize,
+                    name: *const u8,
+                    name_len: usize,
+                    version: *const u8,
+                    version_len: usize,
+                ) -> u64;
             }
 
             #[inline(never)]
@@ -65,6 +80,24 @@ macro_rules! calls {
                     Call::Digest => unsafe {
                         $digest(at, len, buffer.as_mut_ptr(), openssl::DIGEST)
                     },
+                    Call::Compare => {
+                        let right = &black_box(&case.texts)[0];
+                        u64::from(unsafe { $compare(at, len, right.as_ptr(), right.len()) })
+                    }
+                    Call::Meets => {
+                        let texts = black_box(&case.texts);
+                        let [name, version] = [&texts[0], &texts[1]];
+                        unsafe {
+                            $meets(
+                                at,
+                                len,
+                                name.as_ptr(),
+                                name.len(),
+                                version.as_ptr(),
+                                version.len(),
+                            )
+                        }
+                    }
                 }
             }
 
@@ -95,11 +128,13 @@ macro_rules! calls {
     };
 }
 
-calls!(now: station_read station_find station_find_element station_write station_digest);
+calls!(now: station_read station_find station_find_element station_write station_digest
+    station_compare station_meets);
 
+// An older one may lack the calls on versions; it is not asked for them, and the library's stand there.
 #[cfg(before)]
 calls!(before: before_station_read before_station_find before_station_find_element before_station_write
-    before_station_digest);
+    before_station_digest station_compare station_meets);
 
 #[cfg(not(before))]
 mod before {

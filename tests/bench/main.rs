@@ -3,7 +3,8 @@
 //!     bench times DATA-FOLDER [PART-OF-A-NAME]
 //!     bench counts DATA-FOLDER [PART-OF-A-NAME]
 //!
-//! A line for each case, its columns apart by tabs; report.py makes tables of them.
+//! Several parts have | between them. A line for each case, its columns apart by tabs; report.py makes
+//! tables of them.
 
 mod cases;
 #[path = "../compare/content.rs"]
@@ -43,7 +44,7 @@ fn main() {
     }
 }
 
-/// The cases with that text in their group and name.
+/// The cases with one of these texts in their group and name.
 fn cases(data: &str, part: &str) -> Vec<Case> {
     let mut all = cases::readings();
     all.extend(cases::look_ups());
@@ -53,6 +54,11 @@ fn cases(data: &str, part: &str) -> Vec<Case> {
     all.extend(cases::orders());
     all.extend(cases::digest_parts(&all));
     all.extend(cases::digests());
-    all.retain(|case| format!("{} {}", case.group, case.name).contains(part));
+    all.extend(cases::versions());
+    all.extend(cases::requirements());
+    all.retain(|case| {
+        let name = format!("{} {}", case.group, case.name);
+        part.split('|').any(|part| name.contains(part))
+    });
     all
 }

@@ -180,6 +180,10 @@ def answer_cell(case):
         return f'refused {case.number} at {case.place}'
     if 'writing' in case.group:
         return 'written'
+    if case.group == 'versions':
+        return ['older', 'same', 'newer'][case.place]
+    if case.group == 'requirements':
+        return 'yes' if case.place else 'no'
     if 'reading' in case.group or 'growth' in case.group:
         return f'{case.place} doses' if case.place != 1 else '1 dose'
     return 'found'
@@ -487,6 +491,8 @@ def rest(folder):
         ('One look-up', 'Look-up', 'look-up'),
         ('One look-up of an element', 'Element', 'element'),
         ('The test data: one look-up of tag 1126', 'Package', 'data look-up'),
+        ('One comparison of versions', 'Versions', 'versions'),
+        ('One requirement', 'Package', 'requirements'),
     ]:
         yield '\n\n'.join([f'## {title}', *case_tables(what, of(group), counts)])
     yield '\n\n'.join(writing(of('writing'), of('growth writing'), counts))

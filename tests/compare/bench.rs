@@ -8,6 +8,7 @@ use std::ptr;
 use std::sync::atomic::{AtomicPtr, Ordering};
 
 use crate::fence::Fence;
+use crate::quoted::quoted;
 
 extern "C" {
     fn station_find(package: *const u8, len: usize, structure: u32, tag: u32, ty: u32) -> u64;
@@ -30,6 +31,9 @@ const SIGABRT: i32 = 6;
 const SIGBUS: i32 = 7;
 const SIGSEGV: i32 = 11;
 const SIGALRM: i32 = 14;
+
+/// How long a family may take, in seconds.
+const LIMIT: u32 = 300;
 
 /// A look-up to ask for; `element` is `None` for a whole entry.
 #[derive(Clone, Copy, Debug)]
@@ -103,6 +107,8 @@ struct Current {
     package: Vec<u8>,
     /// This program's command that asks again, and the numbers behind the package.
     again: Option<(&'static str, Vec<u64>)>,
+    /// The texts behind the numbers.
+    texts: Vec<Vec<u8>>,
     report: PathBuf,
 }
 
@@ -121,6 +127,10 @@ pub struct Bench {
     pub writings: BTreeMap<u32, usize>,
     /// The same for digests alone.
     pub digests: BTreeMap<u32, usize>,
+    /// How often a version was older, the same, newer.
+    pub versions: [usize; 3],
+    /// How often each number was the answer on a requirement, success apart by its place.
+    pub requirements: BTreeMap<(u32, u32), usize>,
     /// How often 32 was the answer for a reason, where the reason is known.
     pub reasons: BTreeMap<&'static str, usize>,
 }
@@ -146,9 +156,14 @@ fn fail(current: &Current, difference: &str) -> ! {
     eprintln!("{difference}");
     if let Some((command, numbers)) = &current.again {
         let report = current.report.display();
-        let numbers: Vec<String> = numbers.iter().map(u64::to_string).collect();
+        let numbers = numbers.iter().map(u64::to_string);
+        let texts = current
+            .texts
+            .iter()
+            .map(|text| format!("\"{}\"", quoted(text)));
+        let words: Vec<String> = numbers.chain(texts).collect();
         match std::fs::write(&current.report, &current.package) {
-            Ok(()) => eprintln!("again: compare {command} {report} {}", numbers.join(" ")),
+            Ok(()) => eprintln!("again: compare {command} {report} {}", words.join(" ")),
             Err(error) => eprintln!("{report}: {error}"),
         }
     }
@@ -168,6 +183,7 @@ impl Bench {
                 note: "no note",
                 package: Vec::new(),
                 again: None,
+                texts: Vec::new(),
                 report,
             }),
             only,
@@ -177,13 +193,15 @@ impl Bench {
             numbers: BTreeMap::new(),
             writings: BTreeMap::new(),
             digests: BTreeMap::new(),
+            versions: [0; 3],
+            requirements: BTreeMap::new(),
             reasons: BTreeMap::new(),
         };
         CURRENT.store(&mut *bench.current, Ordering::SeqCst);
         for number in [SIGILL, SIGABRT, SIGBUS, SIGSEGV, SIGALRM] {
             unsafe { signal(number, on_signal) };
         }
-        bench.limit(300);
+        bench.limit(LIMIT);
         bench
     }
 
@@ -196,6 +214,7 @@ impl Bench {
     pub fn begins(&mut self, family: &'static str) -> bool {
         self.current.family = family;
         self.current.case = 0;
+        self.limit(LIMIT);
         self.only.as_ref().map_or(true, |only| only == family)
     }
 
@@ -242,6 +261,17 @@ impl Bench {
     /// What is asked next, for the report.
     pub fn asks(&mut self, command: &'static str, numbers: Vec<u64>) {
         self.current.again = Some((command, numbers));
+        self.current.texts.clear();
+    }
+
+    /// The same where texts are asked with.
+    pub fn asks_with(&mut self, command: &'static str, texts: [&[u8]; 2]) {
+        self.current.again = Some((command, Vec::new()));
+        self.current.texts.resize(texts.len(), Vec::new());
+        for (kept, text) in self.current.texts.iter_mut().zip(texts) {
+            kept.clear();
+            kept.extend_from_slice(text);
+        }
     }
 
     /// One more answer that agrees.
@@ -260,6 +290,37 @@ impl Bench {
     pub fn agree_digest(&mut self, answer: Answer) {
         self.agree(answer);
         *self.digests.entry(answer.number()).or_default() += 1;
+    }
+
+    /// One more answer on a requirement that agrees.
+    pub fn agree_requirement(&mut self, answer: Answer) {
+        self.agree(answer);
+        let place = if answer.number() == 0 {
+            answer.place()
+        } else {
+            0
+        };
+        *self
+            .requirements
+            .entry((answer.number(), place))
+            .or_default() += 1;
+    }
+
+    /// How often each number refused a requirement.
+    pub fn refused_requirements(&self) -> BTreeMap<u32, usize> {
+        let refused = self
+            .requirements
+            .iter()
+            .filter(|((number, _), _)| *number != 0);
+        refused
+            .map(|(&(number, _), &count)| (number, count))
+            .collect()
+    }
+
+    /// One more comparison of versions that agrees.
+    pub fn agree_version(&mut self, answer: u32) {
+        self.comparisons += 1;
+        self.versions[answer as usize] += 1;
     }
 
     /// One more refusal for this reason.

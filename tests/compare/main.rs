@@ -6,10 +6,14 @@
 //!     compare read PACKAGE EDITION BUFFER-LENGTH
 //!     compare write REPORT-FILE BUFFER-LENGTH
 //!     compare digest FILE BUFFER-LENGTH
+//!     compare versions LEFT RIGHT
+//!     compare versions REPORT-FILE
+//!     compare meets PACKAGE NAME VERSION
 //!     compare digests library|reference|makers FILE...
 //!     compare messages FOLDER
 //!     compare messages FILE COUNT SEED
 //!
+//! In LEFT, RIGHT, NAME and VERSION \xNN is the byte NN in hex.
 //! The reading is compared if `--cfg reading` is set.
 
 mod bench;
@@ -24,6 +28,7 @@ mod gaps;
 mod lines;
 mod maker;
 mod questions;
+mod quoted;
 mod random;
 #[cfg(reading)]
 mod reading;
@@ -31,6 +36,7 @@ mod real;
 mod repeats;
 mod shapes;
 mod tags;
+mod versions;
 mod writing;
 
 use std::collections::BTreeMap;
@@ -54,6 +60,8 @@ const NUMBERS: &[u32] = if cfg!(reading) {
 const WRITING: [u32; 4] = [0, 32, 33, 34];
 /// Those of the digest call.
 const DIGEST: [u32; 2] = [0, 34];
+/// Those on requirements, success apart: 2 to 13, 25 and 28.
+const REQUIREMENTS: [u32; 14] = [2, 3, 4, 5, 6, 7, 8, 9, 10, 11, 12, 13, 25, 28];
 const LEAST_COMPARISONS: usize = 100_000;
 
 fn main() {
@@ -70,6 +78,10 @@ fn main() {
         }
         [digest, message, room] if digest == "digest" => {
             digest::show(&std::fs::read(message).unwrap(), room.parse().unwrap());
+        }
+        [versions, words @ ..] if versions == "versions" => versions::show(words),
+        [meets, package, name, version] if meets == "meets" => {
+            versions::show_meets(&std::fs::read(package).unwrap(), name, version);
         }
         [digests, by, files @ ..] if digests == "digests" => digest::print(by, files),
         [messages, folder] if messages == "messages" => digest::messages(Path::new(folder)),
@@ -119,6 +131,7 @@ fn run(bench: &mut Bench, data: &Path) -> usize {
     if bench.begins("digests that rpm wrote") {
         real::stated_digests(bench, data);
     }
+    versions::all(bench, data);
     lines
 }
 
@@ -135,12 +148,37 @@ fn all(data: &Path, report: PathBuf) {
     by_number("answers", NUMBERS, &bench.numbers);
     by_number("writings", &WRITING, &bench.writings);
     by_number("digests", &DIGEST, &bench.digests);
+    let [older, same, newer] = bench.versions;
+    by_name(
+        "versions",
+        &[("older", older), ("same", same), ("newer", newer)],
+    );
+    let met = |number, place| *bench.requirements.get(&(number, place)).unwrap_or(&0);
+    by_name("requirements", &[("yes", met(0, 1)), ("no", met(0, 0))]);
+    by_number(
+        "requirements refused",
+        &REQUIREMENTS,
+        &bench.refused_requirements(),
+    );
     for reason in writing::REASONS {
         let count = bench.reasons.get(reason).unwrap_or(&0);
         println!("compare: lists refused with 32, {reason}: {count}");
         assert!(*count > 0, "no list was refused for it");
     }
     assert!(bench.comparisons >= LEAST_COMPARISONS, "too few cases");
+}
+
+/// How often each word was the answer; each must have been.
+fn by_name(what: &str, counts: &[(&str, usize)]) {
+    let shown: Vec<String> = counts
+        .iter()
+        .map(|(name, count)| format!("{name}: {count}"))
+        .collect();
+    println!("compare: {what}: {}", shown.join(", "));
+    assert!(
+        counts.iter().all(|&(_, count)| count > 0),
+        "an answer never came up"
+    );
 }
 
 /// How often each number was the answer; each must have been.

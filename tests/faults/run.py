@@ -4,7 +4,8 @@ the library, and sees that the comparison finds each. Run from the root:
 
     tests/faults/run.py [--alike] [--table FILE] [CHECK...]
 
-With checks (numbers, `package`, `buffer`, `demand3`, `digest`, `writer`), only the faults of those.
+With checks (numbers, `package`, `buffer`, `demand3`, `digest`, `writer`, `version`,
+`requirement`), only the faults of those.
 With --alike the reference that is compared with gets the same fault, as if both
 had misread the paper: what is found then is found by what the maker of the
 packages knows, by demand 3, or by the reference's own samples. With --table the
@@ -26,15 +27,16 @@ import digest_faults
 import gap_faults
 import package_faults
 import reading_faults
+import version_faults
 import writer_faults
 
 OUT = pathlib.Path("target/host/faults")
 REFERENCE = pathlib.Path("tests/reference")
-# Beside links to tests/compare and tests/data, which the samples include.
+# Beside links to tests/compare, tests/data and tests/vectors, which the samples include.
 COPY = OUT / "tests/reference"
 RUST = ["rustc", "--edition", "2021", "-A", "warnings", "-C", f"incremental={OUT / 'incremental'}"]
 FAULTS = (package_faults.FAULTS + gap_faults.FAULTS + reading_faults.FAULTS + digest_faults.FAULTS
-          + writer_faults.FAULTS)
+          + writer_faults.FAULTS + version_faults.FAULTS)
 
 CONTENT = "one damage to an accepted package"
 # The families to try for the writer's faults before all others.
@@ -52,12 +54,21 @@ FIRST = {
     27: "digests of packages", 28: "gaps", "digest": "digests",
     "package": "right packages", "buffer": "dose buffers", "demand3": "kinds",
     33: "sizes of written packages", 34: "buffers to write to", "writer": "written packages",
+    "version": "version texts", "requirement": "requirements",
 }
 # Those to try next.
 NEXT = {
     10: ["translated strings"], 12: ["translated strings"], 13: ["one damage"], 17: ["locales"],
     26: ["translated strings"], 28: ["gaps of accepted packages", "gaps of written packages"], "demand3": ["locales"],
     "digest": ["digest buffers", "large digests", "a digest of over 2^32 bits"],
+    "version": [
+        "single bytes of version texts", "numbers of version texts", "letters of version texts",
+        "many runs of version texts", "parts of one version text", "long version texts",
+    ],
+    "requirement": [
+        "flags of requirements", "names of requirements", "types and counts of requirements",
+        "damaged requirements",
+    ],
 }
 SAMPLES = "the reference's own samples"
 
@@ -143,7 +154,7 @@ def main():
     words = parser.parse_args()
     begun = time.monotonic()
     COPY.mkdir(parents=True, exist_ok=True)
-    for name in ["compare", "data"]:
+    for name in ["compare", "data", "vectors"]:
         link = COPY.parent / name
         if not link.exists():
             link.symlink_to(pathlib.Path("tests", name).resolve())

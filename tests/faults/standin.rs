@@ -85,3 +85,30 @@ pub unsafe extern "C" fn station_digest(
     let digest = from_raw_parts_mut(digest, digest_len);
     reference::digest::digest_for_c(bytes, digest)
 }
+
+#[no_mangle]
+pub unsafe extern "C" fn station_compare(
+    left: *const u8,
+    left_len: usize,
+    right: *const u8,
+    right_len: usize,
+) -> u32 {
+    let left = from_raw_parts(left, left_len);
+    let right = from_raw_parts(right, right_len);
+    reference::version::compare_for_c(left, right)
+}
+
+#[no_mangle]
+pub unsafe extern "C" fn station_meets(
+    package: *const u8,
+    package_len: usize,
+    name: *const u8,
+    name_len: usize,
+    version: *const u8,
+    version_len: usize,
+) -> u64 {
+    let package = from_raw_parts(package, package_len);
+    let name = from_raw_parts(name, name_len);
+    let version = from_raw_parts(version, version_len);
+    reference::requirement::meets_for_c(package, name, version)
+}

@@ -221,7 +221,7 @@ fn change_parts(package: &mut Package, random: &mut Random) {
     if !random.one_in(4) {
         package.gap = [0; 7];
     }
-    match random.below(20) {
+    match random.below(21) {
         0..=3 => change_book(&mut package.header, random),
         4 | 5 => change_group(package, random),
         6 => change_files(&mut package.header, random),
@@ -229,6 +229,7 @@ fn change_parts(package: &mut Package, random: &mut Random) {
         8 => change_rest(package, random),
         9 => change_locales(&mut package.header, random),
         19 => change_gap(package, random),
+        20 => change_requirements(&mut package.header, random),
         n => {
             let (number, structure, lines) = either(package, random);
             match n {
@@ -348,6 +349,19 @@ fn change_group(package: &mut Package, random: &mut Random) {
     }
     if structure.records.is_empty() {
         put(structure, 1000, 4, 1, &[0; 4]);
+    }
+}
+
+/// Names, versions and flags of one count; sometimes one of them of another count or type.
+fn change_requirements(header: &mut Structure, random: &mut Random) {
+    let count = random.pick(&[1, 2, 3, 5, 5, 260]);
+    for (tag, ty) in [(1048, 4), (1049, 8), (1050, 8)] {
+        let (ty, count) = match random.below(32) {
+            0 => (random.pick(&[2, 3, 7, 9]), count),
+            1 => (ty, count + random.pick(&[1, 256])),
+            _ => (ty, count),
+        };
+        put(header, tag, ty, count, &any_data(random, tag, ty, count));
     }
 }
 

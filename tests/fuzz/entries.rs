@@ -12,6 +12,13 @@ const TEXTS: [&[u8]; 14] = [
     b"/bin/sh/", b"/", b"/a/", b"a", b"", b"/srv/books/",
 ];
 
+/// Versions: the same in two spellings, long numbers, none.
+#[rustfmt::skip]
+const VERSIONS: [&[u8]; 14] = [
+    b"1.0", b"1_00", b"1", b"1.a", b"1.1", b"1.10", b"1.9", b"2a", b"2.0-1", b"rc1", b"",
+    b"18446744073709551616", b"0000000000000000000000000001.0", b"9.\xE9.Z",
+];
+
 /// Where a record's data stands in the store, as far as its numbers make sense.
 pub fn extent(structure: &Structure, record: [u32; 4]) -> Option<std::ops::Range<usize>> {
     let [_, ty, offset, count] = record.map(|number| number as usize);
@@ -83,12 +90,16 @@ pub fn any_data(random: &mut Random, tag: u32, ty: u32, count: u32) -> Vec<u8> {
     for _ in 0..count {
         match size_of(ty) {
             Some(4) if tag == 1116 => data.extend([0, 0, 0, random.pick(&[0, 0, 0, 1])]),
+            Some(4) if tag == 1048 && !random.one_in(4) => {
+                data.extend([0, 0, 0, random.below(16) as u8]);
+            }
             Some(size) => data.extend(random.bytes(size)),
             None => {
                 data.extend(match tag {
                     1021 => &b"linux"[..],
                     1085..=1088 => b"/bin/sh",
                     1118 => random.pick(&[&b"/"[..], b"/a/"]),
+                    1050 => random.pick(&VERSIONS),
                     _ => random.pick(&TEXTS),
                 });
                 data.push(0);

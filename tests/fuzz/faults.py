@@ -4,8 +4,9 @@ says after how many executions fuzzing finds each. Run from the root:
 
     tests/fuzz/faults.py [--libfuzzer MINUTES] [CHECK|CHECK:WHAT...]
 
-Without names, all faults; 32, 33, 34 and `writer` are the writer's. The short run of tests/fuzz.sh is used, or libFuzzer for at most
-so many minutes, each time from the corpus alone. It is no part of tests/run.sh.
+Without names, all faults; 32, 33, 34 and `writer` are the writer's, `version` and `requirement`
+those of station_compare and station_meets. The short run of tests/fuzz.sh is used, or libFuzzer
+for at most so many minutes, each time from the corpus alone. It is no part of tests/run.sh.
 """
 import os
 import pathlib
@@ -20,10 +21,11 @@ import digest_faults  # noqa: E402
 import gap_faults  # noqa: E402
 import package_faults  # noqa: E402
 import reading_faults  # noqa: E402
+import version_faults  # noqa: E402
 import writer_faults  # noqa: E402
 
 FAULTS = (package_faults.FAULTS + gap_faults.FAULTS + reading_faults.FAULTS + digest_faults.FAULTS
-          + writer_faults.FAULTS)
+          + writer_faults.FAULTS + version_faults.FAULTS)
 OUT = pathlib.Path('target/host/fuzz-faults')
 COPY = OUT / 'reference'
 LIBRARY = OUT / 'libstation.so'

@@ -10,7 +10,8 @@
 //! | 92, 93 | its type and structure, signed, so that large numbers come up |
 //! | 94, 95 | its element: the upper half, signed, and the lower half |
 //!
-//! What it gives to write is in given.rs; the choices there follow from all its bytes.
+//! What it gives to write is in given.rs, the names and versions that are asked with in required.rs;
+//! the choices there follow from all its bytes.
 
 use crate::bench::Question;
 use crate::maker::{Package, Structure, S};

@@ -5,6 +5,7 @@ pub mod change;
 pub mod entries;
 pub mod given;
 pub mod input;
+mod required;
 pub mod target;
 
 // Shared with the comparison; not all of it is used here.
@@ -22,6 +23,9 @@ mod maker;
 #[allow(dead_code)]
 #[path = "../compare/questions.rs"]
 mod questions;
+#[path = "../compare/quoted.rs"]
+#[allow(dead_code)]
+mod quoted;
 #[allow(dead_code)]
 #[path = "../compare/random.rs"]
 pub mod random;
@@ -34,6 +38,13 @@ mod reading {
     pub mod demand3;
     #[allow(dead_code)]
     pub mod desk;
+}
+
+#[allow(dead_code)]
+#[path = "../compare/versions"]
+mod versions {
+    pub mod desk;
+    pub mod texts;
 }
 
 #[allow(dead_code)]

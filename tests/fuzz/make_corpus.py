@@ -117,6 +117,9 @@ LOCALES = {
     100: (STRINGS, [b'C', b'de', b'pt_BR']), 1004: (I18N, [b'A book', b'Ein Buch', b'Um livro']),
     1005: (I18N, [b'', b'']), 30006: (I18N, [b'one', b'', b'three']),
 }
+REQUIRED = {
+    1048: (INT32, [0x0C, 0x02, 0x08, 0x0100000A, 0]), 1049: (STRINGS, [b'kiln', b'glass', b'', b'glass', b'tin']),
+    1050: (STRINGS, [b'1.10', b'2.a', b'', b'18446744073709551616', b'1'])}
 TWO = (I18N, [b'one', b'two'])
 OLD_NAMES = {tag: entry for tag, entry in FILES.items() if tag < 1116} | {1027: (STRINGS, [b'/a', b'/srv/b', b'/c'])}
 FULL = 1 << 16
@@ -131,6 +134,7 @@ SEEDS = {
     'accepted_both_five_doses': both(right(DOSE * 4 + bytes.fromhex('86 03E7 004C4B40')), '0@5'),
     'accepted_both_three_files': both(right(DOSE, header=FILES), '0@1'),
     'accepted_both_old_names': both(right(DOSE, header=OLD_NAMES, drop=[1116, 1117, 1118]), '0@1'),
+    'accepted_both_requirements': both(right(DOSE, header=REQUIRED), '0@1'),
     'accepted_both_optional_tags': both(right(DOSE, header=OPTIONAL), '0@1'),
     'accepted_both_other_tags': both(right(DOSE, header=OTHER_TAGS, payload=b'payload'), '0@1'),
     'accepted_both_signed': both(right(DOSE, signature={
@@ -186,8 +190,10 @@ SEEDS = {
     'check28_before_weight': both(put(H - 2, b'\x01', right(DOSE, drop=[20002])), f'28@{H - 2}'),
     'check14_signature': both(field(RIGHT, S, 1004, TAG, 1003)[0], '14@1004'),
     'check14_header': wrong_header('14@1126', {}, drop=[1126]),
+    'check14_requirement_flags': wrong_header('14@1048', {}, drop=[1048]),
     'check15_signature': both(right(DOSE, signature={1004: (BIN, bytes(17))}), '15@1004'),
     'check15_header': wrong_entry('15@1004', 1004, STRING, b'A book'),
+    'check15_requirement_flags': wrong_header('15@1048', REQUIRED | {1048: (INT16, [8] * 5)}),
     'check15_locales': wrong_header('15@100', {100: TWO, 1004: TWO}),
     'check15_weight': (right(DOSE, header={20002: (INT32, [1250, 1250])}), '0@1', '15@20002'),
     'check16_whole_length': both(right(DOSE, signature={1000: (INT32, [len(RIGHT)])}), '16@1000'),
@@ -195,6 +201,7 @@ SEEDS = {
     'check17_script': wrong_entry('17@1086', 1024, STRING, b'true'),
     'check17_file_count': wrong_entry('17@1037', 1037, INT32, [0, 0]),
     'check17_both_names': wrong_entry('17@1027', 1027, STRINGS, [b'/a']),
+    'check17_requirement_flags': wrong_header('17@1048', REQUIRED | {1048: (INT32, [8] * 4)}),
     'check17_leader': wrong_header('17@1081', {1080: (INT32, [0]), 1082: (STRINGS, [b''])}),
     'check17_locales': wrong_entry('17@1016', 1016, *TWO),
     'check17_locales_other_tag': wrong_header('17@30006', LOCALES | {30006: (I18N, [b''] * 4), 30007: (STRINGS, [b''] * 5)}),

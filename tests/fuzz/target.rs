@@ -10,6 +10,9 @@ use crate::maker::{md5::md5, S};
 use crate::questions::ask_record;
 use crate::random::Random;
 use crate::reading::{demand3, desk::Desk};
+use crate::required;
+use crate::versions::desk::{Desk as VersionDesk, Memory as VersionMemory};
+use crate::versions::texts::Text;
 use crate::writing::desk::{Desk as WritingDesk, Memory};
 use crate::writing::lists::Lent;
 use crate::writing::round_trip::round_trip;
@@ -23,14 +26,17 @@ const LIMIT: u32 = 20;
 const ROUND_TRIP: usize = 1 << 18;
 
 /// Who answered: a reading at edition 1, at edition 2, at another, a look-up, a writing, a
-/// digest.
+/// digest, a requirement (1 if it is met, 0 if not), a comparison of versions.
 #[rustfmt::skip]
-pub const ASKED: [&str; 6] = [
+pub const ASKED: [&str; 8] = [
     "edition 1", "edition 2", "other editions", "look-ups", "writings", "digests",
+    "requirements", "versions",
 ];
 const LOOK_UP: usize = 3;
 const WRITING: usize = 4;
 const DIGEST: usize = 5;
+const REQUIREMENT: usize = 6;
+const VERSION: usize = 7;
 const NUMBERS: usize = 35;
 const PLACES: usize = 256;
 /// How many sorts of answer are told apart.
@@ -40,11 +46,13 @@ pub struct Target {
     desk: Desk<'static>,
     memory: Memory,
     digests: digest::Memory,
+    versions: VersionMemory,
     /// How many packages were written, read and written again.
     round_trips: usize,
     /// How often each number was the answer, by who answered.
     pub numbers: [[usize; NUMBERS]; ASKED.len()],
-    /// The sorts of answer that the last input got; not those of writings and digests.
+    /// The sorts of answer that the last input got; not those of writings, digests and
+    /// versions.
     pub sorts: Vec<usize>,
 }
 
@@ -53,7 +61,7 @@ pub struct Target {
 fn sort(who: usize, answer: Answer) -> usize {
     let place = answer.place() as usize;
     let place = match answer.number() {
-        _ if who == LOOK_UP => 0,
+        _ if who == LOOK_UP || who == REQUIREMENT => 0,
         3 => 0,
         5..=13 => place / 128,
         14..=18 | 27 => place % 251,
@@ -75,6 +83,7 @@ impl Target {
             desk: Desk::new(bench),
             memory: Memory::new(),
             digests: digest::Memory::new(),
+            versions: VersionMemory::new(),
             round_trips: 0,
             numbers: [[0; NUMBERS]; ASKED.len()],
             sorts: Vec::new(),
@@ -83,7 +92,7 @@ impl Target {
 
     /// Reads at editions 1 and 2 with room and with the asked buffer, and at the
     /// asked edition; asks for the package's digest; looks up what is asked and what stands in
-    /// the index; writes what the input gives.
+    /// the index, and what is required; writes what the input gives.
     /// A difference ends the program.
     pub fn run(&mut self, bytes: &[u8]) -> [Answer; 2] {
         let asked = Asked::of(bytes);
@@ -117,6 +126,7 @@ impl Target {
                 self.note(LOOK_UP, answer);
             }
         }
+        self.requirements(&package);
         self.write_all(&asked, &package);
         answers
     }
@@ -128,6 +138,35 @@ impl Target {
         let mut desk = digest::Desk { bench, memory };
         let answer = desk.digest(asked.room(16), md5(package));
         self.note(DIGEST, answer);
+    }
+
+    /// Asks for a required name with the version beside it and with another, and for another
+    /// name; compares versions.
+    fn requirements(&mut self, package: &[u8]) {
+        let random = &mut Random::new(input::sum(package));
+        let asked = required::of_package(package, random);
+        let bench = &mut *self.desk.bench;
+        let memory = &mut self.versions;
+        let mut desk = VersionDesk { bench, memory };
+        let met = [
+            desk.meets(&asked.name, &asked.version, None),
+            desk.meets(&asked.name, &asked.other_version, None),
+            desk.meets(&asked.other_name, &asked.version, None),
+        ];
+        desk.bench.counting = false;
+        let [version, other, third] =
+            [&asked.version, &asked.other_version, &asked.third].map(|text| Text::of(text));
+        let orders = [desk.pair(&version, &other), desk.against(&version, &third)];
+        for answer in met {
+            let counted = match answer.number() {
+                0 => Answer::new(answer.place(), 0),
+                _ => answer,
+            };
+            self.note(REQUIREMENT, counted);
+        }
+        for order in orders {
+            self.note(VERSION, Answer::new(order, 0));
+        }
     }
 
     /// Writes the lists of a package, the same with one thing otherwise, and others.
@@ -185,7 +224,7 @@ impl Target {
 
     fn note(&mut self, who: usize, answer: Answer) {
         self.numbers[who][answer.number() as usize] += 1;
-        if who < WRITING {
+        if who < WRITING || who == REQUIREMENT {
             self.sorts.push(sort(who, answer));
         }
     }

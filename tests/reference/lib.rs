@@ -3,7 +3,8 @@
 //! Written from the papers alone, to be compared with the proved library.
 //! The order is the paper's: here lead, header structure, checks 2 to 13 and 28, and
 //! look-ups; then catalogue.rs, contents.rs (groups and texts), digest.rs (RFC 1321),
-//! book.rs, and reading.rs, where all checks come together; last writer.rs (document 02).
+//! book.rs, and reading.rs, where all checks come together; last writer.rs, version.rs and
+//! requirement.rs (document 02).
 //! Each check stands as `check(NUMBER, what must hold, place)`.
 
 use std::ops::Range;
@@ -13,6 +14,8 @@ pub mod catalogue;
 mod contents;
 pub mod digest;
 pub mod reading;
+pub mod requirement;
+pub mod version;
 pub mod writer;
 
 #[cfg(test)]
@@ -21,6 +24,8 @@ mod digest_samples;
 mod reading_samples;
 #[cfg(test)]
 mod samples;
+#[cfg(test)]
+mod version_samples;
 #[cfg(test)]
 mod writer_samples;
 
@@ -369,23 +374,38 @@ pub fn find_element(
     Ok(structure.in_file(part.expect("check 12 passed")))
 }
 
-/// The header's 1050 string beside the first 1049 string that equals `name`,
-/// with its zero byte; empty where there is none.
-pub fn required_version<'a>(package: &'a [u8], name: &[u8]) -> &'a [u8] {
-    required(package, name).unwrap_or(&[])
+/// A required name: which of how many it is, and its version with the zero byte.
+struct Required<'a> {
+    position: usize,
+    count: u32,
+    version: &'a [u8],
 }
 
-fn required<'a>(package: &'a [u8], name: &[u8]) -> Option<&'a [u8]> {
-    let header = sound(package).ok()?.header;
-    let names = header.record(1049, STRING_ARRAY)?;
-    let versions = header.record(1050, STRING_ARRAY)?;
-    if names.count != versions.count {
-        return None;
+impl<'a> Structure<'a> {
+    /// The first 1049 string that equals `name`, and the 1050 string beside it.
+    fn required(&self, name: &[u8]) -> Option<Required<'a>> {
+        let names = self.record(1049, STRING_ARRAY)?;
+        let versions = self.record(1050, STRING_ARRAY)?;
+        if names.count != versions.count {
+            return None;
+        }
+        let position = self
+            .strings(names)
+            .position(|string| string.strip_suffix(&[0]) == Some(name))?;
+        Some(Required {
+            position,
+            count: names.count,
+            version: self.strings(versions).nth(position)?,
+        })
     }
-    let position = header
-        .strings(names)
-        .position(|string| string.strip_suffix(&[0]) == Some(name))?;
-    header.strings(versions).nth(position)
+}
+
+/// The version that the header requires of `name`, with its zero byte; empty where there is
+/// none.
+pub fn required_version<'a>(package: &'a [u8], name: &[u8]) -> &'a [u8] {
+    let opened = sound(package).ok();
+    let required = opened.and_then(|opened| opened.header.required(name));
+    required.map_or(&[], |required| required.version)
 }
 
 // ---- Index walk ----
