@@ -100,29 +100,35 @@ module _ (s t : List ℕ) {n : ℕ} (b : (n ≡ common letter s t) × (n ≤ len
       (omega (arith, a .left, none-front letter (drop n s) (omega arith) z))
       (omega (arith, a .right, none-front letter (drop n t) (omega arith) (sym q ∙ sym e ∙ p ∙ z)))
 
--- the higher of two rows of digits
-module _ (s t : List ℕ) {o : Order} (more-is : o ≡ byNumber (front (ofKind digit) s) (front (ofKind digit) t)) where
-  pub more-older : o ≡ Older → Older ≡ byFirst s t
+-- the newer of two runs of digits, by their first digits
+module _ (s t : List ℕ) (unlike : byteOf digit s ≡ byteOf digit t → byteOf digit s ≡ 0)
+    {x y : ℕ} (p : x ≡ byteOf digit s) (q : y ≡ byteOf digit t) where
+  pub no-digits : x ≡ y → Same ≡ byFirst s t
   unfolding byFirst
-  more-older h = sym (else-older _ (sym more-is ∙ h))
+  no-digits e =
+      let z = unlike (sym p ∙ e ∙ q) in
+      let u = none-front digit s (omega arith) z in
+      let v = none-front digit t (omega arith) (sym q ∙ sym e ∙ p ∙ z) in
+      sym (else-same _ (equal _ _ (u ∙ sym v)) ∙ equal _ _ (sym p ∙ e ∙ q))
 
-  pub more-newer : o ≡ Newer → Newer ≡ byFirst s t
-  unfolding byFirst
-  more-newer h = sym (else-newer _ (sym more-is ∙ h))
-
-  module _ (e : o ≡ Same) {x y : ℕ} (p : x ≡ byteOf digit s) (q : y ≡ byteOf digit t) where
-    by-first : byFirst s t ≡ byNumber x y
+  module _ {o : Order} (more-is : o ≡ byNumber (front (ofKind digit) s) (front (ofKind digit) t)) where
+    pub more-older : o ≡ Older → Older ≡ byFirst s t
     unfolding byFirst
-    by-first = else-same _ (sym more-is ∙ e) ∙ sym (ap₂ byNumber p q)
+    more-older h = sym (else-older _ (sym more-is ∙ h))
 
-    pub first-older : x < y → Older ≡ byFirst s t
-    first-older h = sym (by-first ∙ less _ _ h)
+    pub more-newer : o ≡ Newer → Newer ≡ byFirst s t
+    unfolding byFirst
+    more-newer h = sym (else-newer _ (sym more-is ∙ h))
 
-    pub first-newer : y < x → Newer ≡ byFirst s t
-    first-newer h = sym (by-first ∙ more _ _ h)
+    by-first : o ≡ Same → byFirst s t ≡ byNumber x y
+    unfolding byFirst
+    by-first e = else-same _ (sym more-is ∙ e) ∙ sym (ap₂ byNumber p q)
 
-    pub first-same : x ≤ y → y ≤ x → Same ≡ byFirst s t
-    first-same h l = sym (by-first ∙ equal _ _ (omega arith))
+    pub first-older : o ≡ Same → x < y → Older ≡ byFirst s t
+    first-older e h = sym (by-first e ∙ less _ _ h)
+
+    pub first-newer : o ≡ Same → (x ≡ y → ⊥) → y ≤ x → Newer ≡ byFirst s t
+    first-newer e n h = sym (by-first e ∙ more _ _ (omega arith))
 
 -- where no run goes on behind the bytes in common, both end there
 same-first : (s t : List ℕ) → (byteOf digit s ≡ byteOf digit t → byteOf digit s ≡ 0) → byFirst s t ≡ Same
@@ -133,6 +139,12 @@ same-first s t n h =
     let e = same-equal _ _ (compared (byteOf digit s) (byteOf digit t)) (r .1) in
     let z = n e in
     (none-front digit s (omega arith) z, none-front digit t (omega arith) (sym e ∙ z))
+
+-- behind the bytes in common the next digits differ, or there are none
+pub unlike : (s t : List ℕ) {n : ℕ} → (n ≡ common digit s t) × (n ≤ length s) × (n ≤ length t)
+    → byteOf digit (take (length s - n) (drop n s)) ≡ byteOf digit (take (length t - n) (drop n t))
+    → byteOf digit (take (length s - n) (drop n s)) ≡ 0
+unlike s t {n} b = rw (part-rest s n, part-rest t n, b .0) (first digit (omega arith) s t .ends)
 
 -- digits; the code's parts are what stands behind the zeros in front, and behind the bytes in common
 behind-zeros : (s : List ℕ) {i : ℕ} → i ≡ front isZero s → take (length s - i) (drop i s) ≡ drop (front isZero s) s

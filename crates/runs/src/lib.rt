@@ -127,25 +127,26 @@ fn longer(a: &[u8], b: &[u8]) -> Order
     }
 }
 
-// Which is newer, of two runs of digits that differ in their first digit or not at all: the longer, else by that digit.
+// Which is newer, of two runs of digits that differ in their first digit or have none: the longer, else by that digit.
 fn higher(a: &[u8], b: &[u8]) -> Order
+    requires { ⌜ (byteOf digit (now a) ≡ byteOf digit (now b) → byteOf digit (now a) ≡ 0) ⌝ }
     ensures { λ r. ⌜ r ≡ byFirst (now (a .entry)) (now (b .entry)) ⌝ }
 {
+    let x = byte_of(a, 0, Kind::DIGIT);
+    let y = byte_of(b, 0, Kind::DIGIT);
+    if x == y {
+        return Order::Same;
+    }
     let more = longer(a, b);
     match more {
         Order::Older => return Order::Older,
         Order::Newer => return Order::Newer,
         Order::Same => {}
     }
-    let x = byte_of(a, 0, Kind::DIGIT);
-    let y = byte_of(b, 0, Kind::DIGIT);
     if x < y {
         return Order::Older;
     }
-    if y < x {
-        return Order::Newer;
-    }
-    Order::Same
+    Order::Newer
 }
 
 // The letters in front of two texts, by bytes; a run that the other goes on from is older.

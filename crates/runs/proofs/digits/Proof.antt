@@ -51,7 +51,7 @@ part-higher-end-2 : tie.Need-part-higher-end-2
 part-higher-end-2 c = search needs
 
 higher-requires : tie.Need-higher-requires
-higher-requires c κs = search needs
+higher-requires c κs = search (laws.unlike, needs)
 
 enum-told : tie.Need-enum-told
 enum-told c = search needs
