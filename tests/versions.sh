@@ -5,7 +5,8 @@
 #     tests/versions.sh [COUNT [SEED]]
 #
 # COUNT random pairs without tilde and caret, 200,000 if it isn't said, go both ways round through
-# both. Without Python 3 nothing is compared here, without librpmio (Debian: rpm) the vectors alone.
+# both. Without Python 3 nothing is compared here; without librpmio (Debian: rpm) the vectors and the
+# header's examples alone.
 # STATION_LIB names another library to test.
 set -eu
 

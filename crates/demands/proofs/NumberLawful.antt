@@ -1,7 +1,7 @@
 -- Tags that the lines require are present: size-there, digest-there, states-there, batch-there; those of check 18 are strings:
 -- text-lines. Checks 16 and 23, of the numbers that tags hold, pass exactly as the rules say: size-lawful,
 -- batch-lawful.
-use Prim.Native.Nat.{ℕ, _+_, _-_, _≤_, _<_}
+use Prim.Native.Nat.{ℕ, _-_, _≤_, _<_}
 use mathlib.Core.Path.{_≡_, refl, sym, ap, _∙_}
 use mathlib.Core.Logic.{_↔_, Iff·rfl}
 use mathlib.Core.List.{List}

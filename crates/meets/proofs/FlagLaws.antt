@@ -1,7 +1,7 @@
 -- Flags and relations, in the shape of what the code knows: which relation is flagged (flagged-older to flagged-newer), and
 -- whether one is (by-less, by-greater, by-equal, by-none).
 use Prim.Native.Nat.{ℕ}
-use mathlib.Core.Path.{_≡_, refl, sym, _∙_}
+use mathlib.Core.Path.{_≡_, sym, _∙_}
 use mathlib.Core.Bool.{Bool, true, false}
 use Rattle.runs.specs.declared.Order.{Order}
 use Rattle.runs.specs.declared.Order.the-variants.{Older, Same, Newer}

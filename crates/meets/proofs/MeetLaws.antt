@@ -1,10 +1,10 @@
 -- Whether a text meets a requirement, in the shape of what the code knows: by flags and version of the name's number (says-yes,
 -- says-no), among a header's entries (no-flags to counts-same), and by what was found for the name (refused-as to decided-as).
-use Prim.Native.Nat.{ℕ, _-_}
-use mathlib.Core.Path.{_≡_, refl, sym, ap, ap₂, _∙_}
+use Prim.Native.Nat.{ℕ}
+use mathlib.Core.Path.{_≡_, sym, ap, ap₂, _∙_}
 use mathlib.Core.List.{List}
 use mathlib.Core.Bool.{Bool, true, false}
-use lib.ListN.{take, drop}
+use lib.ListN.{take}
 use native.Mathlib.Omega.{arith}
 use borrow.Author.Tests.{eq-eqb, ne-eqb}
 use Rattle.be.specs.Numbers.{be32At}
@@ -20,12 +20,12 @@ use Rattle.index.specs.Lookup.{findIn}
 use Rattle.structure.specs.Sound.{SoundEntry}
 use Rattle.package.specs.Package.{soundCheck, headerAt}
 use Rattle.lookups.proofs.SeekLaws.{header-found}
-use Rattle.elements.specs.Elements.{elementOf, elementIn}
+use Rattle.elements.specs.Elements.{elementIn}
 use Rattle.elements.proofs.PartLaws.{in-of}
 use Rattle.required.specs.declared.Requirement.{Requirement}
 use Rattle.required.specs.declared.Requirement.the-variants as requirement
 use Rattle.required.specs.Version.{textOf, requirementFor}
-use Rattle.required.proofs.MatchLaws.{Arrays, arrays-of}
+use Rattle.required.proofs.MatchLaws.{arrays-of}
 use Rattle.required.proofs.VersionLaws.{versions-sound}
 use Rattle.runs.specs.declared.Order.{Order}
 use Rattle.version.specs.Version.{byText}

@@ -1,7 +1,7 @@
 -- The theorems of specs/Theorems: meets-says, meets-else, meets-refused.
 use Prim.Native.Nat.{ℕ, _<_}
 use mathlib.Core.Path.{_≡_, refl, sym, ap, ap₂, _∙_}
-use mathlib.Core.List.{List, [], _∷_, _++_, append-cancel-right}
+use mathlib.Core.List.{List, [], _∷_, _++_}
 use mathlib.Core.Bool.{Bool, true, false, cond}
 use lib.Dec.{eqb}
 use native.Mathlib.Omega.{arith}
@@ -9,24 +9,22 @@ use borrow.Author.Tests.{eq-eqb, eqb-true}
 use Rattle.be.specs.Numbers.{be32At}
 use Rattle.be.proofs.ByteLaws.{be32-part}
 use Rattle.format.specs.declared.section.Section.{Section}
-use Rattle.format.specs.declared.verdict.Verdict.{Verdict}
-use Rattle.format.specs.declared.verdict.Verdict.the-variants.{Pass, Fail}
-use Rattle.format.specs.declared.verdict.Answer.the-variants.{Done, Refused}
+use Rattle.format.specs.declared.verdict.Answer.the-variants.{Refused}
 use Rattle.entries.specs.Types.{elementSize}
 use Rattle.entries.specs.Entries.{recordAt}
 use Rattle.index.specs.declared.Entry.{Entry}
 use Rattle.index.specs.declared.Found.{Found}
 use Rattle.index.specs.declared.Found.the-variants.{At, Nothing}
 use Rattle.index.specs.Lookup.{findIn, entryAt}
-use Rattle.package.specs.Package.{soundCheck, headerAt}
+use Rattle.package.specs.Package.{headerAt}
 use Rattle.lookups.specs.Lookup.{sought, soughtBytes}
 use Rattle.lookups.proofs.FoundLaws.{record-of-found}
 use Rattle.elements.specs.Elements.{elementOf, findElementBytes}
 use Rattle.required.specs.declared.Requirement.{Requirement}
 use Rattle.required.specs.declared.Requirement.the-variants as requirement
 use Rattle.required.specs.Version.{textOf, requirementFor}
-use Rattle.required.specs.Theorems.{StringArrays, IsName}
-use Rattle.required.proofs.MatchLaws.{Arrays, arrays-of, refused-25, refused-first}
+use Rattle.required.specs.Theorems.{IsName}
+use Rattle.required.proofs.MatchLaws.{arrays-of, refused-25, refused-first}
 use Rattle.required.proofs.RequirementLaws.{found-in, shown, shown-text, string-arrays, name-below, required-first, required-of}
 use Rattle.version.specs.Version.{byText}
 use Rattle.meets.specs.Meets.{meetsBy, yesOrNo, decidedBy, decided, meetsAnswer}
@@ -53,12 +51,14 @@ module _ (s : List ℕ) (w : Flagged s) (k : ℕ) (below : k < recordAt s (heade
       (ap (soughtBytes s) (shown s 1048 4 (w .flags) (w .arrays .sound) (w .typed) k (omega arith)))
       ∙ be32-part s (elementOf s flags k .at .0) (elementOf s flags k .extent) (omega (arith, four-bytes))
 
-  text-shown : (text : List ℕ) → findElementBytes s 1 1050 8 k ≡ text ++ (0 ∷ []) → textOf s (elementOf s versions k) ≡ text
-  unfolding versions
-  text-shown text e =
+  text : List ℕ
+  text = textOf s (elementOf s versions k)
+
+  text-shown : findElementBytes s 1 1050 8 k ≡ text ++ (0 ∷ [])
+  unfolding versions text
+  text-shown =
       let c = w .arrays .counts in
-      append-cancel-right _ text (0 ∷ [])
-      (sym (shown-text s 1050 (w .arrays .versions) (w .arrays .sound) (w .arrays .versioned) k (omega arith)) ∙ e)
+      shown-text s 1050 (w .arrays .versions) (w .arrays .sound) (w .arrays .versioned) k (omega arith)
 
   counts : flags .count ≡ versions .count
   unfolding flags versions
@@ -74,17 +74,20 @@ module _ (s : List ℕ) (w : Flagged s) (k : ℕ) (below : k < recordAt s (heade
           eq-eqb _ _ counts,
         )
 
-    by-shown : (text : List ℕ) → findElementBytes s 1 1050 8 k ≡ text ++ (0 ∷ [])
-        → meetsAnswer s name given ≡ yesOrNo (meetsBy (flagsShown s k) (byText given text))
-    by-shown text e =
-        by-number ∙ ap yesOrNo (ap₂ meetsBy (sym number-shown) (ap (byText given) (text-shown text e)))
+    by-shown : meetsAnswer s name given ≡ yesOrNo (meetsBy (flagsShown s k) (byText given text))
+    unfolding text
+    by-shown = by-number ∙ ap yesOrNo (ap (λ (n : ℕ). meetsBy n (byText given text)) (sym number-shown))
 
 pub meets-says : MeetsSays
-meets-says s name given text k w first e =
-    let b = meetsBy (flagsShown s k) (byText given text) in
-    let a = by-shown s w k (name-below s name (w .arrays) k (first .this)) name given first text e in (
+meets-says s name given k w first =
+    let l = name-below s name (w .arrays) k (first .this) in
+    let t = text s w k l in
+    let b = meetsBy (flagsShown s k) (byText given t) in
+    let a = by-shown s w k l name given first in (
+      t,
+      text-shown s w k l,
       (λ h. by-relation _ _ (is-yes b (sym a ∙ h)), λ m. a ∙ ap yesOrNo (by-flags _ _ m)),
-      (λ h m. is-no b (sym a ∙ h) (by-flags _ _ m), λ n. a ∙ not-yes b (λ t. n (by-relation _ _ t))),
+      (λ h m. is-no b (sym a ∙ h) (by-flags _ _ m), λ n. a ∙ not-yes b (λ z. n (by-relation _ _ z))),
     )
 
 -- a requirement that was found, with flags that aren't int32 of its count

@@ -1,5 +1,5 @@
 -- Document 02, request 6: the flags in all their combinations, as one list that computes. Bit 0 and bits above 3 don't count.
-use Prim.Native.Nat.{ℕ, _+_}
+use Prim.Native.Nat.{ℕ}
 use mathlib.Core.List.{List, [], _∷_}
 use mathlib.Core.Bool.{Bool, true, false, _&&_, not}
 use lib.Dec.{T}
@@ -16,7 +16,8 @@ pub record Example : Type 0 where
 abbrev pub example : ℕ → Bool → Bool → Bool → Example
 example flags older same newer = record { flags = flags; older = older; same = same; newer = newer }
 
--- none, <, >, < or >, =, <=, >=, all three; then bit 0 alone, <= as rpm flags a feature of its own, and all other bits
+-- none, <, >, < or >, =, <=, >=, all three; then bit 0 alone, <= as rpm flags a feature of its own, and all other bits, alone and
+-- with <
 abbrev pub examples : List Example
 examples =
     example 0 true true true

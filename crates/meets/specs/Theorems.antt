@@ -49,12 +49,12 @@ Meets flags given required =
     ⊎ ((Equal flags × (byText given required ≡ Same)) ⊎ ((Less flags → ⊥) × (Greater flags → ⊥) × (Equal flags → ⊥))))
 
 -- With the name's flags and version beside its first place among the names, the answer is yes exactly when the given text meets
--- the required one, and else no.
+-- the required one, and else no. The required text is the string that is shown, without its zero byte.
 abbrev pub MeetsSays : Type 0
 MeetsSays =
-    (s name given required : List ℕ) (k : ℕ) → Flagged s → FirstName s name k
-    → findElementBytes s 1 1050 8 k ≡ required ++ (0 ∷ [])
-    → ((meetsAnswer s name given ≡ Done 1) ↔ Meets (flagsShown s k) given required)
+    (s name given : List ℕ) (k : ℕ) → Flagged s → FirstName s name k
+    → (required : List ℕ) × (findElementBytes s 1 1050 8 k ≡ required ++ (0 ∷ []))
+    × ((meetsAnswer s name given ≡ Done 1) ↔ Meets (flagsShown s k) given required)
     × ((meetsAnswer s name given ≡ Done 0) ↔ (Meets (flagsShown s k) given required → ⊥))
 
 -- Where checks 2 to 13 and 28 pass, and the name is not among the names or the three are not as they should be, it is 25 at 0.

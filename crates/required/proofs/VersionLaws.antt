@@ -25,7 +25,6 @@ use Rattle.entries.specs.Types.{elementSize}
 use Rattle.index.specs.Lookup.{extentTo, findIn}
 use Rattle.structure.specs.Sound.{SoundEntry}
 use Rattle.structure.proofs.SoundLaws.{found-type}
-use Rattle.lookups.specs.declared.Sought.{Sought}
 use Rattle.lookups.specs.declared.Sought.the-variants as sought
 use Rattle.elements.specs.Elements.{elementOf, elementIn}
 use Rattle.package.specs.declared.Opened.{Opened}
@@ -40,7 +39,7 @@ use Rattle.required.specs.Version.{requireName, requireVersion, stringAr
 use Rattle.package.proofs.OpenLaws.{opened-sound, opened-unsound}
 use Rattle.lookups.proofs.SeekLaws.{header-found}
 use Rattle.elements.proofs.PartLaws.{in-of}
-use Rattle.required.proofs.MatchLaws.{Arrays, arrays-of}
+use Rattle.required.proofs.MatchLaws.{arrays-of}
 
 module _ (s name : List ℕ) (names : Entry) where
   step : (n k : ℕ) → numberFrom s name names (suc n) k

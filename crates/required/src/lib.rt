@@ -1,7 +1,5 @@
 // The version required for a package name.
 ghost use mathlib.Core.Path.{_≡_};
-ghost use Prim.Native.Nat.{ℕ, _+_, _-_, _≤_, _<_};
-ghost use lib.ListN.{length};
 ghost use Rattle.format.specs.declared.verdict.Verdict.the-variants.{Pass};
 ghost use Rattle.format.specs.Sizes.{packageLimit};
 ghost use Rattle.structure.specs.Sound.{SoundEntry};

@@ -1,6 +1,6 @@
--- The first difference of two runs of a kind (first), how it decides between them (letters-met, digits-met), and the turns
--- of its search.
-use Prim.Native.Nat.{ℕ, suc, _+_, _-_, _≤_, _<_}
+-- The first difference of two runs of a kind, and how it decides between them (first); the turns of its search (common-turn
+-- to common-right); a byte of a kind at a place (byte-here, byte-other, byte-over), and none in front (none-front).
+use Prim.Native.Nat.{ℕ, suc, _+_, _≤_, _<_}
 use mathlib.Core.Path.{_≡_, refl, sym, ap, ap₂, _∙_}
 use mathlib.Core.List.{List, [], _∷_}
 use mathlib.Core.Bool.{Bool, true, false, cond, _&&_}
@@ -9,7 +9,6 @@ use lib.ListN.{length, take, drop, getD}
 use borrow.Author.Tests.{eqb-true, eqb-false, eq-eqb, ne-eqb}
 use native.Mathlib.Omega.{arith}
 use Rattle.runs.specs.declared.Order.{Order}
-use Rattle.runs.specs.declared.Order.the-variants.{Older, Same, Newer}
 use Rattle.runs.specs.Orders.{orElse, byNumber, byList}
 use Rattle.runs.specs.Runs.{ofKind, front}
 use Rattle.runs.specs.Common.{common, byteOf}

@@ -1,12 +1,12 @@
--- The kind of a byte, by where it stands in ASCII (digit-here to behind); bytes of letters and digits are not zero
+-- The kind of a byte, by where it stands in ASCII (before-digits to behind); bytes of letters and digits are not zero
 -- (positive); an ASCII 0 is a digit (zero-digit); digits are 48 to 57 (digit-range).
 use Prim.Native.Nat.{ℕ, _≤_, _<_}
 use mathlib.Core.Path.{_≡_, refl, sym}
 use mathlib.Core.Bool.{Bool, true, false, cond, _&&_}
-use lib.Dec.{eqb, leb}
+use lib.Dec.{leb}
 use borrow.Author.Tests.{le-leb, lt-leb, leb-true, leb-false, eq-eqb, eqb-true}
 use native.Mathlib.Omega.{arith}
-use Rattle.runs.specs.Runs.{digit, letter, isDigit, isLetter, kind, ofKind, isZero}
+use Rattle.runs.specs.Runs.{digit, isDigit, isLetter, kind, ofKind, isZero}
 
 pub before-digits : (b : ℕ) → b < 48 → 0 ≡ kind b
 unfolding kind isDigit isLetter

@@ -1,8 +1,9 @@
 -- How two runs meet, in the shape of what the code knows: which has more digits (longer-same to longer-turn), letters
--- (letters-older to letters-same), digits (digits-same to digits-newer).
+-- (letters-older to letters-same), digits by their first ones (no-digits to first-newer), digits (digits-older to
+-- digits-same).
 use Prim.Native.Nat.{ℕ, _+_, _-_, _≤_, _<_}
 use mathlib.Core.Path.{_≡_, refl, sym, ap, ap₂, _∙_}
-use mathlib.Core.List.{List, [], _∷_}
+use mathlib.Core.List.{List}
 use mathlib.Core.Bool.{Bool, true, false}
 use lib.Dec.{leb}
 use lib.ListN.{length, take, drop, getD}
@@ -10,10 +11,9 @@ use borrow.Author.Tests.{leb-true, leb-false}
 use native.Mathlib.Omega.{arith}
 use Rattle.runs.specs.declared.Order.{Order}
 use Rattle.runs.specs.declared.Order.the-variants.{Older, Same, Newer}
-use Rattle.runs.specs.declared.Met.{Met}
 use Rattle.runs.specs.declared.Met.the-variants as answer
-use Rattle.runs.specs.Orders.{orElse, byNumber, byList}
-use Rattle.runs.specs.Runs.{letter, digit, ofKind, isZero, front, byRun, frontRun, metAs, met}
+use Rattle.runs.specs.Orders.{byNumber}
+use Rattle.runs.specs.Runs.{letter, digit, ofKind, isZero, front, byRun, frontRun, met}
 use Rattle.runs.specs.Common.{common, byteOf, byFirst}
 use Rattle.runs.proofs.OrderLaws.{less, more, equal, compared, same-equal, both-same, else-same, else-older, else-newer}
 use Rattle.runs.proofs.FrontLaws.{next, over, part-rest, front-pass, zeros-front}

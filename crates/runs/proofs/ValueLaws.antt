@@ -1,7 +1,7 @@
 -- Digits by value: behind leading zeros they compare by length and then digit by digit (by-lengths); so do the runs of two
 -- texts, by what stands at their first difference (by-digits).
 use Prim.Native.Nat.{ℕ, suc, _+_, _*_, _-_, _≤_, _<_}
-use mathlib.Core.Path.{_≡_, refl, sym, ap, ap₂, _∙_}
+use mathlib.Core.Path.{_≡_, refl, ap, ap₂, _∙_}
 use mathlib.Core.List.{List, [], _∷_}
 use mathlib.Core.Bool.{Bool, true, false, cond}
 use lib.ListN.{length, take, drop}
@@ -9,7 +9,6 @@ use lib.Seq.{length-take-le}
 use borrow.Author.Tests.{eqb-true, eqb-false}
 use native.Mathlib.Omega.{arith}
 use Rattle.runs.specs.declared.Order.{Order}
-use Rattle.runs.specs.declared.Order.the-variants.{Older, Same, Newer}
 use Rattle.runs.specs.Orders.{orElse, byNumber, byList}
 use Rattle.runs.specs.Runs.{digit, ofKind, isZero, front, valueFrom, byRun, frontRun}
 use Rattle.runs.specs.Common.{common, byFirst}
@@ -134,4 +133,5 @@ module _ (s t : List ℕ) where
       ∙ ap₂ byNumber (zeros-value s) (zeros-value t)
       ∙ by-lengths (numeral (behind s)) (numeral (behind t)) (compared _ _) (numeric (behind s)) (numeric (behind t))
       (led-behind s) (led-behind t)
-      ∙ ap₂ orElse (ap₂ byNumber (counted (behind s) ∙ f .left) (counted (behind t) ∙ f .right) ∙ added apart _ _ (compared _ _)) (f .order)
+      ∙ ap₂ orElse
+      (ap₂ byNumber (counted (behind s) ∙ f .left) (counted (behind t) ∙ f .right) ∙ added apart _ _ (compared _ _)) (f .order)

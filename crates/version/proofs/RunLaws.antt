@@ -1,7 +1,7 @@
 -- A text's runs: behind separators they are the same (runs-skip), a byte in front makes the first longer or a new one
 -- (runs-more, runs-new), the first is the longest (runs-run); how two texts compare by their first runs (both-run,
 -- both-end, differ).
-use Prim.Native.Nat.{ℕ, suc, _≤_, _<_}
+use Prim.Native.Nat.{ℕ, suc, _<_}
 use mathlib.Core.Path.{_≡_, refl, sym, ap, ap₂, _∙_}
 use mathlib.Core.List.{List, [], _∷_}
 use mathlib.Core.Bool.{Bool, true, false, cond}
@@ -10,11 +10,11 @@ use lib.ListN.{length, take, drop}
 use borrow.Author.Tests.{eqb-true, eqb-false, eq-eqb, ne-eqb, leb-true, leb-false}
 use native.Mathlib.Omega.{arith}
 use Rattle.runs.specs.declared.Order.{Order}
-use Rattle.runs.specs.declared.Order.the-variants.{Older, Same, Newer}
+use Rattle.runs.specs.declared.Order.the-variants.{Same}
 use Rattle.runs.specs.Orders.{orElse, byNumber, byList}
-use Rattle.runs.specs.Runs.{separator, kind, ofKind, Run, run, front, frontRun, byRun}
-use Rattle.runs.proofs.OrderLaws.{less, more, equal, Compared, is-less, is-same, is-more, compared}
-use Rattle.runs.proofs.FrontLaws.{over, front-pass, front-fail, front-fits}
+use Rattle.runs.specs.Runs.{separator, kind, ofKind, run, front, frontRun, byRun}
+use Rattle.runs.proofs.OrderLaws.{less, more, Compared, is-less, is-same, is-more, compared}
+use Rattle.runs.proofs.FrontLaws.{over, front-pass}
 use Rattle.version.specs.Version.{kindOf, longer, runs, byText}
 
 -- what only separates is passed over

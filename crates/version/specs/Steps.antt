@@ -8,7 +8,7 @@ use Rattle.runs.specs.declared.Met.the-variants.{Older, Same, Newer}
 use Rattle.runs.specs.Runs.{separator, met}
 use Rattle.version.specs.Version.{kindOf, runs}
 
--- the first place from i on where a run starts, or the text's end: the runs from there on are those from i on
+-- a place from i on where a run starts, or from which on there is none: the runs from there on are those from i on
 pub record Skips (s : List ℕ) (i p : ℕ) : Type 0 where
   pub fits : p ≤ length s
   pub ahead : i ≤ p

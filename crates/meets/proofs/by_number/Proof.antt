@@ -1,4 +1,5 @@
--- The flags and the version are those of the number. -- Assumes nothing.
+-- The flags and the version are those of the number.
+-- Assumes nothing.
 use Rattle.meets.proofs.MeetLaws as laws
 use borrow.Author.Needs.{needs}
 use Rattle.meets.proofs.by_number.Statement.{statement}

@@ -1,4 +1,5 @@
--- By the flags, where they are there. -- Assumes nothing.
+-- By the flags, where they are there.
+-- Assumes nothing.
 use Rattle.meets.proofs.MeetLaws as laws
 use borrow.Author.Needs.{needs}
 use Rattle.meets.proofs.decide.Statement.{statement}

@@ -1,4 +1,5 @@
--- Each relation has its flag. -- Assumes nothing.
+-- Each relation has its flag.
+-- Assumes nothing.
 use Rattle.meets.proofs.FlagLaws as laws
 use borrow.Author.Needs.{needs}
 use Rattle.meets.proofs.is_flagged.Statement.{statement}

@@ -1,4 +1,5 @@
--- The bit of the flag. -- Assumes nothing.
+-- The bit of the flag.
+-- Assumes nothing.
 use mathlib.Core.Path.{refl}
 use Rattle.meets.specs.Meets.{isSet}
 use borrow.Author.Needs.{needs}

@@ -1,4 +1,5 @@
--- By what is required for the name. -- Assumes nothing.
+-- By what is required for the name.
+-- Assumes nothing.
 use Rattle.meets.proofs.MeetLaws as laws
 use borrow.Author.Needs.{needs}
 use Rattle.meets.proofs.meets.Statement.{statement}

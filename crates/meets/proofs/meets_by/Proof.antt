@@ -1,4 +1,5 @@
--- One of the flags is set, or none is. -- Assumes nothing.
+-- One of the flags is set, or none is.
+-- Assumes nothing.
 use Rattle.meets.proofs.FlagLaws as laws
 use borrow.Author.Needs.{needs}
 use Rattle.meets.proofs.meets_by.Statement.{statement}

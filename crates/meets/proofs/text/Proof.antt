@@ -1,4 +1,5 @@
--- The part before the last byte. -- Assumes nothing.
+-- The part before the last byte.
+-- Assumes nothing.
 use Rattle.meets.proofs.MeetLaws as laws
 use borrow.Author.Needs.{needs}
 use Rattle.meets.proofs.text.Statement.{statement}

@@ -1,4 +1,5 @@
--- Each order has its number. -- Assumes nothing.
+-- Each order has its number.
+-- Assumes nothing.
 use mathlib.Core.Path.{_≡_, sym, ap, _∙_}
 use Rattle.runs.specs.declared.Order.{Order}
 use Rattle.runs.specs.declared.Order.the-variants.{Older, Same, Newer}
