@@ -5,16 +5,15 @@ use mathlib.Core.Path.{_≡_, refl, sym, ap, ap₂, _∙_}
 use mathlib.Core.List.{List, [], _∷_}
 use mathlib.Core.Bool.{Bool, true, false, cond, _&&_}
 use lib.Dec.{eqb}
-use lib.ListN.{length, take, drop, getD}
+use lib.ListN.{length, take, drop, getD, drop-of-length-le}
 use borrow.Author.Tests.{eqb-true, eqb-false, eq-eqb, ne-eqb}
 use native.Mathlib.Omega.{arith}
-use Rattle.runs.specs.declared.Order.{Order}
-use Rattle.runs.specs.Orders.{orElse, byNumber, byList}
+use Rattle.runs.specs.Orders.{byNumber, byList}
 use Rattle.runs.specs.Runs.{ofKind, front}
 use Rattle.runs.specs.Common.{common, byteOf}
-use Rattle.runs.proofs.OrderLaws.{less, more, equal, Compared, is-less, is-same, is-more, compared, else-same}
+use Rattle.runs.proofs.OrderLaws.{less, more, equal, compared, else-same, else-unlike}
 use Rattle.runs.proofs.KindLaws.{positive}
-use Rattle.runs.proofs.FrontLaws.{next, over, front-pass, front-fail}
+use Rattle.runs.proofs.FrontLaws.{next, front-pass, front-fail}
 
 pub byte-yes : (k b : ℕ) (s : List ℕ) → ofKind k b ≡ true → byteOf k (b ∷ s) ≡ b
 unfolding byteOf
@@ -67,17 +66,11 @@ headed k (b ∷ s) h =
     go true = refl
     go false = refl
 
-differ : (a b : ℕ) {o : Order} → Compared a b o → (a ≡ b → ⊥) → (r : Order) → orElse o r ≡ o
-unfolding orElse
-differ a b (is-less h) n r = refl
-differ a b (is-same h) n r = absurd (n h)
-differ a b (is-more h) n r = refl
-
 heads : (a b : ℕ) (xs ys : List ℕ) (p q : Bool) → (p ≡ true → 0 < a) → (q ≡ true → 0 < b)
     → (cond p a 0 ≡ cond q b 0 → cond p a 0 ≡ 0)
     → byList byNumber (cond p (a ∷ xs) []) (cond q (b ∷ ys) []) ≡ byNumber (cond p a 0) (cond q b 0)
 unfolding byList
-heads a b xs ys true true f g n = differ a b (compared a b) (λ e. let z = n e in let l = f refl in omega arith) _
+heads a b xs ys true true f g n = else-unlike a b (compared a b) (λ e. let z = n e in let l = f refl in omega arith) _
 heads a b xs ys true false f g n = sym (more a 0 (f refl))
 heads a b xs ys false true f g n = sym (less 0 b (g refl))
 heads a b xs ys false false f g n = sym (equal 0 0 refl)
@@ -167,11 +160,11 @@ module _ (k : ℕ) (s t : List ℕ) (i n : ℕ) (inv : n ≡ i + common k (drop 
 
   pub common-left : length s ≤ i → i ≡ n
   unfolding common
-  common-left h = omega (arith, ap (λ (l : List ℕ). common k l (drop i t)) (over s i h))
+  common-left h = omega (arith, ap (λ (l : List ℕ). common k l (drop i t)) (drop-of-length-le s h))
 
   pub common-right : i < length s → length t ≤ i → i ≡ n
   unfolding common
-  common-right h l = omega (arith, ap₂ (common k) (next s i h) (over t i l))
+  common-right h l = omega (arith, ap₂ (common k) (next s i h) (drop-of-length-le t l))
 
 -- the byte at a place
 pub byte-here : (k : ℕ) (s : List ℕ) (i : ℕ) {b : ℕ} → i < length s → b ≡ getD s i 0 → ofKind k b ≡ true
@@ -182,4 +175,4 @@ pub byte-other : (k : ℕ) (s : List ℕ) (i : ℕ) → i < length s → ofKind 
 byte-other k s i h f = sym (ap (byteOf k) (next s i h) ∙ byte-no k (getD s i 0) _ f)
 
 pub byte-over : (k : ℕ) (s : List ℕ) (i : ℕ) → length s ≤ i → 0 ≡ byteOf k (drop i s)
-byte-over k s i h = sym (ap (byteOf k) (over s i h) ∙ byte-none k)
+byte-over k s i h = sym (ap (byteOf k) (drop-of-length-le s h) ∙ byte-none k)

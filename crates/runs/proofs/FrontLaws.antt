@@ -1,10 +1,10 @@
 -- How many bytes in front pass a test: at most all (front-fits), one turn of the count (front-turn, front-stop, front-over),
--- behind zeros (zeros-front). A list from a place on: next, over, part-rest.
-use Prim.Native.Nat.{ℕ, zero, suc, _+_, _-_, _≤_, _<_}
+-- behind zeros (zeros-front). A list from a place on: next, part-rest.
+use Prim.Native.Nat.{ℕ, suc, _+_, _-_, _≤_, _<_}
 use mathlib.Core.Path.{_≡_, refl, sym, ap, _∙_}
 use mathlib.Core.List.{List, [], _∷_}
 use mathlib.Core.Bool.{Bool, true, false, cond}
-use lib.ListN.{length, take, drop, getD, length-drop}
+use lib.ListN.{length, take, drop, getD, length-drop, drop-of-length-le}
 use lib.Seq.{drop-cons, take-length}
 use borrow.Author.Tests.{eq-eqb, ne-eqb}
 use native.Mathlib.Numerals.{add-one}
@@ -15,12 +15,6 @@ use Rattle.runs.proofs.KindLaws.{zero-digit}
 -- a list from a place on
 pub next : (s : List ℕ) (i : ℕ) → i < length s → drop i s ≡ getD s i 0 ∷ drop (i + 1) s
 next s i h = rw (add-one, drop-cons s i 0)
-
-pub over : (s : List ℕ) (i : ℕ) → length s ≤ i → drop i s ≡ []
-over [] zero h = refl
-over [] (suc i) h = refl
-over (b ∷ s) zero h = absurd (omega arith)
-over (b ∷ s) (suc i) h = over s i (omega arith)
 
 pub part-rest : (s : List ℕ) (i : ℕ) → take (length s - i) (drop i s) ≡ drop i s
 part-rest s i = rw (← length-drop i s) (take-length (drop i s))
@@ -73,7 +67,7 @@ module _ (test : ℕ → Bool) where
     front-stop h t = omega (arith, ap (front test) (next s i h), front-fail (getD s i 0) (drop (i + 1) s) t)
 
     pub front-over : length s ≤ i → i ≡ n
-    front-over h = omega (arith, ap (front test) (over s i h), front-end)
+    front-over h = omega (arith, ap (front test) (drop-of-length-le s h), front-end)
 
 -- digits in front are the zeros, and the digits behind them
 pub zeros-front : (s : List ℕ) → front (ofKind digit) s ≡ front isZero s + front (ofKind digit) (drop (front isZero s) s)

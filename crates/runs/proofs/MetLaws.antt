@@ -6,7 +6,7 @@ use mathlib.Core.Path.{_≡_, refl, sym, ap, ap₂, _∙_}
 use mathlib.Core.List.{List}
 use mathlib.Core.Bool.{Bool, true, false}
 use lib.Dec.{leb}
-use lib.ListN.{length, take, drop, getD}
+use lib.ListN.{length, take, drop, getD, drop-of-length-le}
 use borrow.Author.Tests.{leb-true, leb-false}
 use native.Mathlib.Omega.{arith}
 use Rattle.runs.specs.declared.Order.{Order}
@@ -16,7 +16,7 @@ use Rattle.runs.specs.Orders.{byNumber}
 use Rattle.runs.specs.Runs.{letter, digit, ofKind, isZero, front, byRun, frontRun, met}
 use Rattle.runs.specs.Common.{common, byteOf, byFirst}
 use Rattle.runs.proofs.OrderLaws.{less, more, equal, compared, same-equal, both-same, else-same, else-older, else-newer}
-use Rattle.runs.proofs.FrontLaws.{next, over, part-rest, front-pass, zeros-front}
+use Rattle.runs.proofs.FrontLaws.{next, part-rest, front-pass, zeros-front}
 use Rattle.runs.proofs.CommonLaws.{First, first, byte-none, byte-no, none-front}
 use Rattle.runs.proofs.ValueLaws.{by-digits, added}
 
@@ -26,7 +26,7 @@ module _ (k : ℕ) (s : List ℕ) (i : ℕ) (some : byteOf k (drop i s) ≡ 0 �
   within = go (leb (length s) i) refl
     where
       go : (t : Bool) → leb (length s) i ≡ t → i < length s
-      go true h = absurd (some (ap (byteOf k) (over s i (leb-true _ _ h)) ∙ byte-none k))
+      go true h = absurd (some (ap (byteOf k) (drop-of-length-le s (leb-true _ _ h)) ∙ byte-none k))
       go false h = leb-false _ _ h
 
   one-more : front (ofKind k) (drop i s) ≡ 1 + front (ofKind k) (drop (i + 1) s)

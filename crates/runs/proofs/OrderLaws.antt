@@ -1,6 +1,6 @@
 -- Numbers compared (less, more, equal, compared) are in order (numbers), and so are lists by an order of their elements
--- (lists), and whatever is compared through a function (through). What follows one answer or another: else-same, else-older,
--- else-newer, both-same.
+-- (lists), and whatever is compared through a function (through). What follows one answer or another: else-same, else-unlike,
+-- else-older, else-newer, both-same.
 use Prim.Native.Nat.{ℕ, _<_}
 use mathlib.Core.Path.{_≡_, refl, sym, ap, ap₂, _∙_}
 use mathlib.Core.List.{List, [], _∷_}
@@ -80,6 +80,12 @@ both-same Newer r h = let z : _≡_ {A = ℕ} 0 1 = cc in absurd (omega arith)
 pub else-same : {o : Order} (r : Order) → o ≡ Same → orElse o r ≡ r
 unfolding orElse
 else-same r h = rw h
+
+pub else-unlike : (a b : ℕ) {o : Order} → Compared a b o → (a ≡ b → ⊥) → (r : Order) → orElse o r ≡ o
+unfolding orElse
+else-unlike a b (is-less h) n r = refl
+else-unlike a b (is-same h) n r = absurd (n h)
+else-unlike a b (is-more h) n r = refl
 
 pub else-older : {o : Order} (r : Order) → o ≡ Older → orElse o r ≡ Older
 unfolding orElse

@@ -6,15 +6,15 @@ use mathlib.Core.Path.{_≡_, refl, sym, ap, ap₂, _∙_}
 use mathlib.Core.List.{List, [], _∷_}
 use mathlib.Core.Bool.{Bool, true, false, cond}
 use lib.Dec.{eqb, leb}
-use lib.ListN.{length, take, drop}
+use lib.ListN.{length, take, drop, drop-of-length-le}
 use borrow.Author.Tests.{eqb-true, eqb-false, eq-eqb, ne-eqb, leb-true, leb-false}
 use native.Mathlib.Omega.{arith}
 use Rattle.runs.specs.declared.Order.{Order}
 use Rattle.runs.specs.declared.Order.the-variants.{Same}
 use Rattle.runs.specs.Orders.{orElse, byNumber, byList}
 use Rattle.runs.specs.Runs.{separator, kind, ofKind, run, front, frontRun, byRun}
-use Rattle.runs.proofs.OrderLaws.{less, more, Compared, is-less, is-same, is-more, compared}
-use Rattle.runs.proofs.FrontLaws.{over, front-pass}
+use Rattle.runs.proofs.OrderLaws.{less, more, Compared, compared, else-unlike}
+use Rattle.runs.proofs.FrontLaws.{front-pass}
 use Rattle.version.specs.Version.{kindOf, longer, runs, byText}
 
 -- what only separates is passed over
@@ -104,15 +104,12 @@ unfolding runs
 starts s e = go (leb (length s) (front (ofKind 0) s)) refl
   where
     go : (t : Bool) → leb (length s) (front (ofKind 0) s) ≡ t → runs (drop (front (ofKind 0) s) s) ≡ []
-    go true h = rw (over s (front (ofKind 0) s) (leb-true _ _ h))
+    go true h = rw (drop-of-length-le s {i = front (ofKind 0) s} (leb-true _ _ h))
     go false h = absurd (front-stops 0 s (leb-false _ _ h) e)
 
 -- kinds that differ decide
 other-kind : (k l : ℕ) {o : Order} → Compared k l o → (k ≡ l → ⊥) → (r q : Order) → orElse (orElse o r) q ≡ o
-unfolding orElse
-other-kind k l (is-less h) n r q = refl
-other-kind k l (is-same h) n r q = absurd (n h)
-other-kind k l (is-more h) n r q = refl
+other-kind k l c n r q = ap (λ (o : Order). orElse o q) (else-unlike k l c n r) ∙ else-unlike k l c n q
 
 module _ (s t : List ℕ) where
   pub both-run : (k : ℕ) → kindOf s ≡ k → kindOf t ≡ k → (k ≡ 0 → ⊥)

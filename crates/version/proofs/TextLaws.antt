@@ -4,7 +4,7 @@ use Prim.Native.Nat.{ℕ, _+_, _-_, _≤_, _<_}
 use mathlib.Core.Path.{_≡_, refl, sym, ap, ap₂, _∙_}
 use mathlib.Core.List.{List, [], _∷_}
 use mathlib.Core.Bool.{Bool, true, false, cond}
-use lib.ListN.{length, take, drop, getD, length-drop}
+use lib.ListN.{length, take, drop, getD, length-drop, drop-of-length-le}
 use lib.Seq.{drop-drop}
 use native.Mathlib.Omega.{arith}
 use Rattle.runs.specs.declared.Order.{Order}
@@ -14,7 +14,7 @@ use Rattle.runs.specs.declared.Met.the-variants as met-is
 use Rattle.runs.specs.Orders.{orElse, byList}
 use Rattle.runs.specs.Runs.{separator, letter, digit, isDigit, isLetter, kind, ofKind, front, frontRun, byRun, metAs, met}
 use Rattle.runs.proofs.OrderLaws.{less, more, else-same, else-older, else-newer}
-use Rattle.runs.proofs.FrontLaws.{next, over, part-rest, front-fits, front-stop, front-over}
+use Rattle.runs.proofs.FrontLaws.{next, part-rest, front-fits, front-stop, front-over}
 use Rattle.version.specs.Version.{kindOf, runs, byText}
 use Rattle.version.specs.Steps.{Skips, shifted, metAt}
 use Rattle.version.proofs.RunLaws.{runs-skip, starts, both-run, both-end, differ, front-some}
@@ -46,7 +46,7 @@ kind-here s i h e = rw (next s i h) e
 
 pub kind-over : (s : List ℕ) (i : ℕ) → length s ≤ i → 0 ≡ kindOf (drop i s)
 unfolding kindOf
-kind-over s i h = rw (over s i h)
+kind-over s i h = rw (drop-of-length-le s h)
 
 -- there are three kinds
 pub kind-most : (s : List ℕ) {k : ℕ} → k ≡ kindOf s → k ≤ 2

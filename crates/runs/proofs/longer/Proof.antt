@@ -12,6 +12,9 @@ use Rattle.runs.specs.Common.{byteOf}
 use Rattle.runs.proofs.MetLaws as laws
 use Rattle.runs.proofs.longer.Statement.{statement}
 use Rattle.runs.proofs.longer.Tie as tie
+use Rattle.runs.proofs.longer.Reads as reads
+use Rattle.runs.proofs.longer.Lts as lts
+use Rattle.runs.proofs.byte_of.Reads as byte-of-reads
 
 abbrev Inv-loop : tie.InvT-loop
 Inv-loop a b i₀ i = (i ≤ length a) × (i ≤ length b)
@@ -43,32 +46,33 @@ returns-3 c = search (laws.longer-newer, needs)
 there : (s : List ℕ) (i : ℕ) {x : ℕ} → x ≡ byteOf digit (drop i s) → (x ≡ 0 → ⊥) → i < length s
 there s i e h = laws.within digit s i (λ z. h (e ∙ z))
 
+-- where both have a digit
+abbrev Both : Type 0
+Both = lts.Else3 (byte-of-reads.Asked, byte-of-reads.Learnt) reads.Pre reads.Post Inv-loop μ-loop
+
+within : (c : Both)
+    → let at-loop = c .before .before .before .before in
+    (at-loop .loop .i < length (at-loop .before .before .before .args .a .now))
+    × (at-loop .loop .i < length (at-loop .before .before .before .args .b .now))
+within c =
+    let second = c .before .before in
+    let first = second .before in
+    (there _ _ (first .byte-of .ensures) (c .before .if1 .left), there _ _ (second .byte-of2 .ensures) (c .if3 .left))
+
 add-i : tie.Need-add-i Inv-loop μ-loop
-add-i c =
-    let first = c .before .before .before in
-    let at-loop = first .before in
-    let a = at-loop .before .before .before .args .a .now in
-    omega (arith, there a (at-loop .loop .i) (first .byte-of .ensures) (c .before .if1 .left))
+add-i c = omega (arith, within c)
 
 loop-less : tie.Need-loop-less Inv-loop μ-loop
-loop-less c =
-    let first = c .before .before .before in
-    let at-loop = first .before in
-    let a = at-loop .before .before .before .args .a .now in
-    omega (arith, there a (at-loop .loop .i) (first .byte-of .ensures) (c .before .if1 .left))
+loop-less c = omega (arith, within c)
 
 loop-again : tie.Need-loop-again Inv-loop μ-loop
 loop-again c =
     let second = c .before .before in
     let first = second .before in
-    let at-loop = first .before in
-    let a = at-loop .before .before .before .args .a .now in
-    let b = at-loop .before .before .before .args .b .now in
-    let f = there a (at-loop .loop .i) (first .byte-of .ensures) (c .before .if1 .left) in
-    let g = there b (at-loop .loop .i) (second .byte-of2 .ensures) (c .if3 .left) in (
-      omega arith,
-      omega arith,
-      laws.longer-turn a b (at-loop .loop .i) (at-loop .loop .inv .2) (first .byte-of .ensures) (second .byte-of2 .ensures)
+    let at-loop = first .before in (
+      omega (arith, within c),
+      omega (arith, within c),
+      laws.longer-turn _ _ (at-loop .loop .i) (at-loop .loop .inv .2) (first .byte-of .ensures) (second .byte-of2 .ensures)
           (c .before .if1 .left) (c .if3 .left),
     )
 

@@ -1,10 +1,15 @@
 -- `version::meet` meets its contract: the answer for the texts from the two places on, moved there.
 -- Assumes nothing.
 use Rattle.version.proofs.TextLaws as laws
+use Prim.Native.Nat.{_+_, _≤_}
 use native.Mathlib.Omega.{arith}
+use lib.ListN.{length}
 use borrow.Author.Needs.{needs}
 use Rattle.version.proofs.meet.Statement.{statement}
 use Rattle.version.proofs.meet.Tie as tie
+use Rattle.version.proofs.meet.Reads as reads
+use Rattle.version.proofs.meet.Lts as lts
+use Rattle.version.proofs.first_runs.Reads as first-runs-reads
 
 sub-first-runs : tie.Need-sub-first-runs
 sub-first-runs c = search needs
@@ -36,25 +41,25 @@ enum-told-2 c = search needs
 enum-known-both : tie.Need-enum-known-both
 enum-known-both c = search needs
 
-add-i : tie.Need-add-i
-add-i c =
+-- where the runs are the same, each ends in its text
+abbrev Alike : Type 0
+Alike = lts.After-known-told (first-runs-reads.Asked, first-runs-reads.Learnt) reads.Pre reads.Post
+
+within : (c : Alike)
+    → let start = c .before .before .before .before .before .before .before .before in
+    (start .args .p + c .before .both .given .0 .0 ≤ length (start .args .left .now))
+    × (start .args .q + c .before .both .given .0 .1 .0 ≤ length (start .args .right .now))
+within c =
     let at-runs = c .before .before .before in
     let start = at-runs .before .before .before .before .before in
-    omega (
-      arith,
-      laws.met-within (start .args .k) (start .args .left .now) (start .args .right .now) (start .args .p)
-          (start .args .q) (at-runs .first-runs .ensures) (start .pre .0) (start .pre .1) (c .before .both .given .1),
-    )
+    laws.met-within (start .args .k) (start .args .left .now) (start .args .right .now) (start .args .p) (start .args .q)
+    (at-runs .first-runs .ensures) (start .pre .0) (start .pre .1) (c .before .both .given .1)
+
+add-i : tie.Need-add-i
+add-i c = omega (arith, within c)
 
 add-j : tie.Need-add-j
-add-j c =
-    let at-runs = c .before .before .before in
-    let start = at-runs .before .before .before .before .before in
-    omega (
-      arith,
-      laws.met-within (start .args .k) (start .args .left .now) (start .args .right .now) (start .args .p)
-          (start .args .q) (at-runs .first-runs .ensures) (start .pre .0) (start .pre .1) (c .before .both .given .1),
-    )
+add-j c = omega (arith, within c)
 
 returns : tie.Need-returns
 returns c = search (laws.met-older, needs)
