@@ -12,6 +12,7 @@ use Rattle.catalogue.specs.Words.{int32, requiredFrom2}
 use Rattle.catalogue.specs.Lists.{Listed, Rising, KeepsLines}
 use Rattle.book.specs.Kinds.{isWeighed, Part, Oxide, Milligrams, Holds, knows, lastEdition}
 use Rattle.book.specs.Book.{kindAt, places}
+use Rattle.book.specs.KindTheorems.{KeepsKinds}
 use Rattle.reading.specs.Editions.{Edition, editionOf, batchTag}
 use Rattle.reading.specs.Reading.{bookOf, answerAt, readAnswer}
 use Rattle.reading.specs.Buffers.{Form, roomIn, leftAt, leftIn}
@@ -20,7 +21,7 @@ use Rattle.reading.specs.Buffers.{Form, roomIn, leftAt, leftIn}
 pub record Extends (earlier later : Edition) : Type 0 where
   pub signature : KeepsLines (earlier .signature) (later .signature)
   pub header : KeepsLines (earlier .header) (later .header)
-  pub kinds : (kind : ℕ) (parts : List Part) → (earlier .kinds) kind ≡ Holds parts → (later .kinds) kind ≡ Holds parts
+  pub kinds : KeepsKinds (earlier .kinds) (later .kinds)
 
 -- a body begins with oxide 2 and milligrams 4
 abbrev pub BeginsDose : List Part → Type 0
