@@ -5,7 +5,6 @@ use mathlib.Core.Logic.{_↔_, Iff·rfl, Iff·trans}
 use mathlib.Core.List.{List}
 use mathlib.Core.Bool.{Bool}
 use lib.ListN.{length, drop}
-use borrow.Author.Tests.{le-leb}
 use Rattle.format.specs.declared.section.Structure.the-variants.{Header}
 use Rattle.format.specs.declared.verdict.Verdict.the-variants.{Pass}
 use Rattle.format.specs.Sizes.{leadSize}
@@ -13,20 +12,19 @@ use Rattle.structure.specs.Structure.{sectionAt}
 use Rattle.package.specs.Package.{headerStart, signatureAt, headerAt}
 use Rattle.rules.specs.Rules.{rulesOver, rulesCheck}
 use Rattle.md5.specs.Md5.{digest}
-use Rattle.book.specs.Kinds.{knows, lastEdition}
+use Rattle.book.specs.Kinds.{knows}
 use Rattle.book.specs.Doses.{doses, sumOf}
 use Rattle.book.specs.RowTheorems.{HoldDoses}
 use Rattle.book.proofs.RowTheorems.{known-hold}
 use Rattle.reading.specs.Editions.{Edition, editionOf, batchTag}
-use Rattle.reading.specs.Reading.{editionCheck, bookIn, bookOf, needed, roomCheck, bookPart, openedCheck, checksAt}
-use Rattle.reading.specs.Reading.{readingCheck}
+use Rattle.reading.specs.Reading.{bookIn, bookOf, needed, roomCheck, bookPart, openedCheck, checksAt}
 use Rattle.reading.specs.Buffers.{roomIn}
 use Rattle.demands.specs.Lawful.{NumberIs, DataIs, LawfulStructure, LawfulLines}
 use Rattle.demands.specs.Lawful.{LawfulGroups, LawfulTexts, LawfulBook, HasLine, LawfulPackage}
 use Rattle.demands.specs.Editions.{IsEdition}
 use Rattle.demands.specs.Demands.{Demand2}
-use Rattle.reading.proofs.AnswerLaws.{done}
-use Rattle.demands.proofs.PassIff.{check-iff, last-iff, both-iff, then-iff, leb-iff}
+use Rattle.reading.proofs.AnswerLaws.{done, at-known}
+use Rattle.demands.proofs.PassIff.{last-iff, both-iff, then-iff, leb-iff}
 use Rattle.demands.proofs.PackageLawful.{Parts, parts-lawful, parts-sound, sound-parts, start-is}
 use Rattle.demands.proofs.FoundLawful.{Apart}
 use Rattle.demands.proofs.LineLawful.{lines-lawful}
@@ -156,15 +154,10 @@ pub checks-lawful : (edition : Edition) → IsEdition edition → HoldDoses (kno
 checks-lawful edition is hold s room =
     Iff·trans (blocks-lawful edition s is hold room) (package-lawful edition s hold room)
 
--- 1
-edition-passes : (edition : ℕ) → 1 ≤ edition → edition ≤ lastEdition → editionCheck edition ≡ Pass
-unfolding editionCheck
-edition-passes edition l m = check-iff _ _ _ _ .1 (le-leb _ _ l, last-iff _ _ _ .1 (le-leb _ _ m))
-
 pub demand2 : Demand2
-unfolding readingCheck
 demand2 form edition s before l m =
+    let at = at-known edition l m s (roomIn form before) in
     let checks = checks-lawful (editionOf edition) (editions-lawful edition l) (known-hold edition) s (roomIn form before) in (
-      λ h. checks .0 (both-iff _ _ .0 (done _ _ h .0) .1),
-      λ r. rw (both-iff _ _ .1 (edition-passes edition l m, checks .1 r)),
+      λ h. checks .0 (sym at ∙ done _ _ h .0),
+      λ r. rw (at ∙ checks .1 r),
     )

@@ -35,7 +35,8 @@ use Rattle.reading.proofs.AnswerLaws.{done, refused, pass-book}
 use Rattle.demands.specs.Editions.{Extends, batchLine, IsEdition, First, NoneLacks, lackingIn, Added, AddsLine, ByAdded, EditionsAgree}
 use Rattle.demands.proofs.AgreementLaws.{Agree, same-first, agree-both}
 use Rattle.demands.proofs.BookAgreement.{records-agree, passed-none}
-use Rattle.demands.proofs.LineAgreement.{Refuses, refuses-stays, ByLine, lines-agree, has-line}
+use Rattle.demands.proofs.LineAgreement.{Refuses, refuses-stays, ByLine, lines-agree}
+use Rattle.demands.proofs.NumberLawful.{has-line}
 
 -- the earlier edition stops with 20 at the first record of the book that it lacks
 abbrev Stops : Edition → List ℕ → Verdict → Type 0

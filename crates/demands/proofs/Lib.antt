@@ -23,7 +23,6 @@ pub mod RowLawful
 pub mod TextLawful
 pub mod NumberLawful
 pub mod DigestLawful
-pub mod EditionInstances
 pub mod Demand2
 pub mod BothLaws
 pub mod RowStated

@@ -1,13 +1,11 @@
 -- Two lists of lines with rising tags, of which the later keeps the earlier's: equal verdicts, or the later stops with 14 or 15
--- at a line that it adds (lines-agree). Whether a tag has a line, as a test and as a line that is listed (has-line).
+-- at a line that it adds (lines-agree).
 use Prim.Native.Nat.{ℕ, _<_}
-use mathlib.Core.Path.{_≡_, refl, sym, ap, _∙_}
-use mathlib.Core.Logic.{_⊎_, inl, inr, _≢_, _↔_}
+use mathlib.Core.Path.{_≡_, refl, ap}
+use mathlib.Core.Logic.{_⊎_, inl, inr, _≢_}
 use mathlib.Core.List.{List, [], _∷_}
-use mathlib.Core.Bool.{Bool, true, false, not, _||_, or-true}
-use lib.Dec.{eqb}
+use mathlib.Core.Bool.{Bool, true, false, not}
 use native.Mathlib.Omega.{arith}
-use borrow.Author.Tests.{eqb-true, eq-eqb}
 use Rattle.format.specs.declared.verdict.Verdict.{Verdict}
 use Rattle.format.specs.declared.verdict.Verdict.the-variants.{Pass, Fail}
 use Rattle.format.specs.Verdicts.{check, both}
@@ -20,8 +18,6 @@ use Rattle.catalogue.specs.Lists.{Listed, Above, Rising, KeepsLines}
 use Rattle.catalogue.proofs.ListLaws.{above, rest-rises}
 use Rattle.tags.specs.Tags.{Look}
 use Rattle.lines.specs.Lines.{lineCheckAs, lineCheck, linesOf}
-use Rattle.reading.specs.Editions.{hasLine}
-use Rattle.demands.specs.Lawful.{HasLine}
 use Rattle.demands.specs.Editions.{Added}
 
 -- a line's own verdict passes, or is 14 or 15 with its tag
@@ -125,25 +121,3 @@ module _ (look : Look) where
       go (inr in-rest) both-rest later-rest =
           add-front (x ∷ xs) y ys (below in-rest)
           (later-rest (λ line l. strip line (λ m. let a = below in-rest line l in omega arith) (k line l)))
-
--- a tag has a line exactly where a line that has it is listed
-test-listed : (tag : ℕ) (lines : List Line) → hasLine tag lines ≡ true → HasLine tag lines
-unfolding hasLine
-test-listed tag [] h = let z : _≡_ {A = ℕ} 0 1 = cc in absurd (omega arith)
-test-listed tag (line ∷ rest) h = go (eqb (line .tag) tag) refl (test-listed tag rest) h
-  where
-    go : (t : Bool) → eqb (line .tag) tag ≡ t → (hasLine tag rest ≡ true → HasLine tag rest)
-        → (t || hasLine tag rest) ≡ true → HasLine tag (line ∷ rest)
-    go true e later k = (line, inl refl, eqb-true (line .tag) tag e)
-    go false e later k = let f = later k in (f .0, inr (f .1), f .2)
-
-listed-test : (tag : ℕ) (lines : List Line) (line : Line) → Listed line lines → line .tag ≡ tag → hasLine tag lines ≡ true
-unfolding hasLine
-listed-test tag [] line l e = absurd l
-listed-test tag (other ∷ rest) line (inl q) e =
-    let k : other .tag ≡ line .tag = ap (λ (l : Line). l .tag) (sym q) in
-    rw (eq-eqb (other .tag) tag (k ∙ e))
-listed-test tag (other ∷ rest) line (inr l) e = rw (listed-test tag rest line l e) (or-true (eqb (other .tag) tag))
-
-pub has-line : (tag : ℕ) (lines : List Line) → (hasLine tag lines ≡ true) ↔ HasLine tag lines
-has-line tag lines = (test-listed tag lines, λ (line, l, e). listed-test tag lines line l e)
