@@ -73,7 +73,7 @@ states() {
     done > "$work/doses"
     "$station" "$shop/$file" | sed '1d;$d' | diff "$work/doses" - || fail "$file: not its doses"
     for edition in 1 2 3; do
-        "$station" --edition $edition "$shop/$file" | sed '1d;$d' > "$work/read"
+        { "$station" --edition $edition "$shop/$file" || true; } | sed '1d;$d' > "$work/read"
         case " $editions " in
             *" $edition "*) diff "$work/doses" "$work/read" || fail "$file: edition $edition" ;;
             *) grep -q '^Means:  a weighed record of a kind that' "$work/read" || fail "$file: accepted at edition $edition" ;;
@@ -127,13 +127,15 @@ holds lot-1.rpm 'aa001b000004e2000112ab'
 holds lot-2.rpm 'aa001b000004e200000000'
 holds lot-3.rpm 'aa03e7004c4b40ffffffff'
 holds lot-4.rpm 'aa001b000004e20000000186000e00000320aa0001000000010000000286001b00000002'
+# times COUNT LINE: the line so often
+times() { yes "$2" | head -n "$1" || true; }
 # a whole book of lots; books that doses with lots and without fill to the last byte
-makes lots-1.rpm '372 doses, 372 with a lot, 1860000000 mg' lots 1 < <(yes '27 5000000 4294967295' | head -n 372)
+makes lots-1.rpm '372 doses, 372 with a lot, 1860000000 mg' lots 1 < <(times 372 '27 5000000 4294967295')
 full=()
 for _ in $(seq 372); do full+=(27:5000000:4294967295); done
 states lots-1.rpm "${full[@]}"
-makes lots-2.rpm '376 doses, 366 with a lot, 376 mg' lots 2 < <(yes '27 1 5' | head -n 366; yes '27 1' | head -n 10)
-makes lots-3.rpm '584 doses, 2 with a lot, 584 mg' lots 3 < <(yes '27 1' | head -n 582; yes '27 1 5' | head -n 2)
+makes lots-2.rpm '376 doses, 366 with a lot, 376 mg' lots 2 < <(times 366 '27 1 5'; times 10 '27 1')
+makes lots-3.rpm '584 doses, 2 with a lot, 584 mg' lots 3 < <(times 582 '27 1'; times 2 '27 1 5')
 # names that rpm takes too
 long=$(printf '%060d' 0)
 makes Sky_blue-2+b.c-1_0.a+2.rpm '2 doses, 2050 mg' Sky_blue-2+b.c 1_0.a+2 sky.txt
@@ -202,8 +204,8 @@ stops 1 'standard input:1: the line is longer than 255 bytes'$'\n'"$behind" wron
 many='one dose too many: a book has room for 585, or for 372 with lots'
 stops 1 "standard input:586: $many"$'\n'"$behind" wrong 1 < <(yes '27 1')
 stops 1 "standard input:373: $many"$'\n'"$behind" wrong 1 < <(yes '27 1 0')
-stops 1 "standard input:585: $many"$'\n'"$behind" wrong 1 < <(yes '27 1' | head -n 584; yes '27 1 5')
-stops 1 "standard input:377: $many"$'\n'"$behind" wrong 1 < <(yes '27 1 5' | head -n 366; yes '27 1')
+stops 1 "standard input:585: $many"$'\n'"$behind" wrong 1 < <(times 584 '27 1'; yes '27 1 5')
+stops 1 "standard input:377: $many"$'\n'"$behind" wrong 1 < <(times 366 '27 1 5'; yes '27 1')
 # no doses
 stops 1 'standard input: no doses' none 1 < /dev/null
 stops 1 'standard input: no doses' none 1 < <(printf '# 27 1250\n\n')
@@ -413,7 +415,7 @@ fi
 # docs/FORMAT.md: the bytes of that package
 grep -q "\`sky-1.rpm\`, $(wc -c < "$shop/sky-1.rpm") bytes:" docs/FORMAT.md || fail 'docs/FORMAT.md: another length'
 sed -n '/^## A package on the station$/,$s/^    \([0-9A-F ]*\) # \([0-9]*\) .*/\2 \1/p' docs/FORMAT.md > "$work/listing"
-[ "$(wc -l < "$work/listing")" = 10 ] || fail 'docs/FORMAT.md: not 10 lines of bytes'
+[ "$(wc -l < "$work/listing")" = 11 ] || fail 'docs/FORMAT.md: not 11 lines of bytes'
 while read -r place bytes; do
     bytes=${bytes// /}
     found=$(tail -c "+$((place + 1))" "$shop/sky-1.rpm" | od -An -v -tx1 -N $((${#bytes} / 2)) | tr -d ' \n' | tr a-f A-F)
