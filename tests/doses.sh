@@ -128,6 +128,11 @@ subprocess.run(sys.argv[2:], stdin=ours)'
     says 'an input that breaks off' "$(python3 -c "$broken" "$right" "$doses"; echo .)" "$unread"
 fi
 
+# README.md has what it says of its example
+cases=$((cases + 1))
+said=$("$doses" < "$right" | sed 's/^/    /')
+[[ $(< README.md) == *"$said"* ]] || { echo 'tests: doses: README.md: not what the program says' >&2; exit 1; }
+
 # arguments
 usage='usage: doses < PACKAGE'
 says 'a file as argument' "$("$doses" "$right" < "$right"; echo .)" "$usage"
