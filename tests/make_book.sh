@@ -119,6 +119,9 @@ makes lot-3.rpm '1 dose, 1 with a lot, 5000000 mg' lot 3 < <(echo '999 5000000 4
 states lot-3.rpm 999:5000000:4294967295
 makes lot-4.rpm '4 doses, 2 with a lot, 2053 mg' lot 4 < <(printf '27 1250 1\n14 800\n1\t1\t002 # 3\n27 2 # 4\n')
 states lot-4.rpm 27:1250:1 14:800 1:1:2 27:2
+# a blank is no thousands mark, as README.md warns
+makes lot-5.rpm '1 dose, 1 with a lot, 1 mg' lot 5 < <(echo '27 1 250')
+states lot-5.rpm 27:1:250
 # holds FILE HEX: the package has these bytes
 holds() {
     od -An -v -tx1 "$shop/$1" | tr -d ' \n' | grep -q "$2" || fail "$1: not its records"
