@@ -12,9 +12,12 @@ unfoldable pub partsSize : List Part → ℕ
 partsSize [] = 0
 partsSize (part ∷ rest) = partSize part + partsSize rest
 
--- the parts of a body come to kind mod 16 bytes
+-- the parts of each body come to kind mod 16 bytes
+abbrev pub SizedKinds : Kinds → Type 0
+SizedKinds kinds = (kind : ℕ) (parts : List Part) → kinds kind ≡ Holds parts → partsSize parts ≡ kind % 16
+
 abbrev pub BodiesSized : Type 0
-BodiesSized = (edition kind : ℕ) (parts : List Part) → kindsOf edition kind ≡ Holds parts → partsSize parts ≡ kind % 16
+BodiesSized = (edition : ℕ) → SizedKinds (kindsOf edition)
 
 -- the number of a book's doses and their sum are the same by any kinds
 abbrev pub AnyKinds : Type 0

@@ -1,10 +1,11 @@
--- Demand 2: the checks of an edition block by block (rules-lawful, part-lawful), together (checks-lawful), and demand2.
+-- Demand 2: the checks of an edition block by block (rules-lawful, part-lawful), together (any-edition), and demand2.
 use Prim.Native.Nat.{ℕ, _-_, _≤_}
-use mathlib.Core.Path.{_≡_, sym, subst, _∙_}
+use mathlib.Core.Path.{_≡_, sym, ap, subst, _∙_}
 use mathlib.Core.Logic.{_↔_, Iff·rfl, Iff·trans}
 use mathlib.Core.List.{List}
 use mathlib.Core.Bool.{Bool}
 use lib.ListN.{length, drop}
+use native.Mathlib.Omega.{arith}
 use Rattle.format.specs.declared.section.Structure.the-variants.{Header}
 use Rattle.format.specs.declared.verdict.Verdict.the-variants.{Pass}
 use Rattle.format.specs.Sizes.{leadSize}
@@ -15,14 +16,16 @@ use Rattle.md5.specs.Md5.{digest}
 use Rattle.book.specs.Kinds.{knows}
 use Rattle.book.specs.Doses.{doses, sumOf}
 use Rattle.book.specs.RowTheorems.{HoldDoses}
-use Rattle.book.proofs.RowTheorems.{known-hold}
+use Rattle.book.specs.KindTheorems.{partsSize, SizedKinds}
+use Rattle.book.proofs.KindLaws.{held}
+use Rattle.book.proofs.KindTheorems.{bodies-sized}
 use Rattle.reading.specs.Editions.{Edition, editionOf, batchTag}
 use Rattle.reading.specs.Reading.{bookIn, bookOf, needed, roomCheck, bookPart, openedCheck, checksAt}
 use Rattle.reading.specs.Buffers.{roomIn}
 use Rattle.demands.specs.Lawful.{NumberIs, DataIs, LawfulStructure, LawfulLines}
 use Rattle.demands.specs.Lawful.{LawfulGroups, LawfulTexts, LawfulBook, HasLine, LawfulPackage}
 use Rattle.demands.specs.Editions.{IsEdition}
-use Rattle.demands.specs.Demands.{Demand2}
+use Rattle.demands.specs.Demands.{Demand2, AnyEdition}
 use Rattle.reading.proofs.AnswerLaws.{done, at-known}
 use Rattle.demands.proofs.PassIff.{last-iff, both-iff, then-iff, leb-iff}
 use Rattle.demands.proofs.PackageLawful.{Parts, parts-lawful, parts-sound, sound-parts, start-is}
@@ -148,16 +151,25 @@ module _ (edition : Edition) (s : List ℕ) where
         subst (Blocks room) (start-is s (r .sound)) (package-blocks hold room fits r),
   )
 
--- of any edition whose weighed kinds have room for a dose in their bodies
-pub checks-lawful : (edition : Edition) → IsEdition edition → HoldDoses (knows (edition .kinds)) → (s : List ℕ) (room : ℕ)
-    → (checksAt edition s room ≡ Pass) ↔ (LawfulPackage edition s × (needed (bookOf s) ≤ room))
-checks-lawful edition is hold s room =
+-- a weighed body begins with oxide 2 and milligrams 4, so it has six bytes or more
+hold-doses : (edition : Edition) → IsEdition edition → SizedKinds (edition .kinds) → HoldDoses (knows (edition .kinds))
+unfolding partsSize
+hold-doses edition is sized kind k w =
+    let body = held ((edition .kinds) kind) k in
+    let begins = is .weighed kind (body .0) w (body .1) in
+    let size = sized kind (body .0) (body .1) in
+    let parts = ap partsSize (begins .1) in
+    omega arith
+
+pub any-edition : AnyEdition
+any-edition edition is sized s room =
+    let hold = hold-doses edition is sized in
     Iff·trans (blocks-lawful edition s is hold room) (package-lawful edition s hold room)
 
 pub demand2 : Demand2
 demand2 form edition s before l m =
     let at = at-known edition l m s (roomIn form before) in
-    let checks = checks-lawful (editionOf edition) (editions-lawful edition l) (known-hold edition) s (roomIn form before) in (
+    let checks = any-edition (editionOf edition) (editions-lawful edition l) (bodies-sized edition) s (roomIn form before) in (
       λ h. checks .0 (sym at ∙ done _ _ h .0),
       λ r. rw (at ∙ checks .1 r),
     )

@@ -65,8 +65,11 @@ module _ (look : Look) where
       go (inl h) (inl e) = inl (rw h e)
       go (inl h) (inr (other, a, r)) = inr (other, record { listed = inr (a .listed); without = a .without }, rw h r)
       go (inr r) _ =
-          inr (line, record { listed = inl refl; without = λ old l. λ e. let k = below old l in omega arith },
-          refuses-stays (lineCheck look line) (linesOf look rest) (line .tag) r)
+          inr (
+            line,
+            record { listed = inl refl; without = λ old l. λ e. let k = below old l in omega arith },
+            refuses-stays (lineCheck look line) (linesOf look rest) (line .tag) r,
+          )
 
   -- a line that both have in front
   keep-front : (line : Line) (earlier later : List Line) → Above (line .tag) later → LinesAgree earlier later
@@ -117,7 +120,7 @@ module _ (look : Look) where
       go (inl e) both-rest later-rest =
           rw e (keep-front y xs ys r′
           (both-rest (λ line l.
-              strip line (λ m. let a = above (x .tag) xs r line l in let b = same-tag x y e in omega arith) (k line (inr l)))))
+          strip line (λ m. let a = above (x .tag) xs r line l in let b = same-tag x y e in omega arith) (k line (inr l)))))
       go (inr in-rest) both-rest later-rest =
           add-front (x ∷ xs) y ys (below in-rest)
           (later-rest (λ line l. strip line (λ m. let a = below in-rest line l in omega arith) (k line l)))

@@ -12,13 +12,14 @@ use Rattle.package.specs.Package.{soundCheck, structureOf}
 use Rattle.lookups.specs.Lookup.{findBytes, findAnswer}
 use Rattle.lookups.specs.Theorems.{RecordFor, Shows}
 use Rattle.book.specs.Kinds.{lastEdition}
+use Rattle.book.specs.KindTheorems.{SizedKinds}
 use Rattle.book.specs.Doses.{doses}
 use Rattle.buffer.specs.Buffer.{numbersOf}
-use Rattle.reading.specs.Editions.{editionOf, batchTag}
-use Rattle.reading.specs.Reading.{bookOf, needed, readAnswer}
+use Rattle.reading.specs.Editions.{Edition, editionOf, batchTag}
+use Rattle.reading.specs.Reading.{bookOf, needed, checksAt, readAnswer}
 use Rattle.reading.specs.Buffers.{Form, Numbers, Bytes, roomIn, cells, leftIn, ReadInto}
 use Rattle.demands.specs.Lawful.{SoundPackage, LawfulPackage}
-use Rattle.demands.specs.Editions.{First, NoneLacks, lackingIn}
+use Rattle.demands.specs.Editions.{IsEdition, First, NoneLacks, lackingIn}
 
 -- Demand 1: "A refused reading changes no number of the dose buffer; an accepted one writes its doses at the front and nothing
 -- behind them." (`readAnswer` is the number and place of the first check that fails, in document 01's order.)
@@ -44,6 +45,12 @@ Demand2 =
     (form : Form) (edition : ℕ) (s before : List ℕ) → 1 ≤ edition → edition ≤ lastEdition
     → (readAnswer edition s (roomIn form before) ≡ Done (length (doses (bookOf s))))
     ↔ (LawfulPackage (editionOf edition) s × (needed (bookOf s) ≤ roomIn form before))
+
+-- and of any edition (request 7) whose bodies come to kind mod 16 bytes
+abbrev pub AnyEdition : Type 0
+AnyEdition =
+    (edition : Edition) → IsEdition edition → SizedKinds (edition .kinds) → (s : List ℕ) (room : ℕ)
+    → (checksAt edition s room ≡ Pass) ↔ (LawfulPackage edition s × (needed (bookOf s) ≤ room))
 
 -- "Where size, lead and structures are sound": exactly where checks 2 to 13 and 28 pass,
 abbrev pub SoundExactly : Type 0

@@ -67,8 +67,12 @@ books =
     ∷ record { edition = 1; bytes = lotBehind; verdict = Fail 20 7; doses = [] }
     ∷ record { edition = 2; bytes = lotBehind; verdict = Fail 20 7; doses = [] }
     ∷ record { edition = 3; bytes = lotBehind; verdict = Pass; doses = 27 ∷ 5000000 ∷ 0 ∷ 27 ∷ 1250 ∷ 4294967295 ∷ [] }
-    ∷ record { edition = 3; bytes = lotBefore; verdict = Pass;
-        doses = 27 ∷ 1250 ∷ 4294967295 ∷ 27 ∷ 1250 ∷ 0 ∷ 27 ∷ 5000000 ∷ 0 ∷ [] }
+    ∷ record {
+      edition = 3;
+      bytes = lotBefore;
+      verdict = Pass;
+      doses = 27 ∷ 1250 ∷ 4294967295 ∷ 27 ∷ 1250 ∷ 0 ∷ 27 ∷ 5000000 ∷ 0 ∷ [];
+    }
     ∷ record { edition = 3; bytes = lotCut; verdict = Fail 21 0; doses = [] }
     ∷ []
 
