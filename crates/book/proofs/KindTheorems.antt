@@ -10,7 +10,7 @@ use borrow.Author.Tests.{eqb-true}
 use Rattle.format.specs.declared.verdict.Verdict.the-variants.{Pass}
 use Rattle.book.specs.declared.dose.Dose.{Dose}
 use Rattle.book.specs.Kinds.{isWeighed, Part, Body, Unknown, Holds, Kinds, knows, KindRow, kindTable, kindsIn}
-use Rattle.book.specs.Book.{kindAt, places, lotIn, doseBy, kindAllowed, recordsCheck}
+use Rattle.book.specs.Book.{kindAt, places, lotIn, doseBy, recordsCheck}
 use Rattle.book.specs.Doses.{dosesBy, sumOf}
 use Rattle.book.specs.KindTheorems.{partsSize, BodiesSized, AnyKinds, KeepsKinds, KeptKinds}
 use Rattle.book.proofs.KindLaws.{held}
@@ -43,30 +43,22 @@ unfolding areSized kindTable partsSize
 bodies-sized = rows-sized kindTable refl
 
 module _ (kinds kinds′ : Kinds) (b : List ℕ) where
-  same-count : (ps : List ℕ) → length (dosesBy kinds b ps) ≡ length (dosesBy kinds′ b ps)
-  unfolding dosesBy
-  same-count [] = refl
-  same-count (at ∷ rest) = go (isWeighed (kindAt b at)) (same-count rest)
-    where
-      go : (w : Bool) → length (dosesBy kinds b rest) ≡ length (dosesBy kinds′ b rest)
-          → length (cond w (doseBy kinds b at ∷ dosesBy kinds b rest) (dosesBy kinds b rest))
-          ≡ length (cond w (doseBy kinds′ b at ∷ dosesBy kinds′ b rest) (dosesBy kinds′ b rest))
-      go true h = omega arith
-      go false h = h
+  abbrev Alike : List Dose → List Dose → Type 0
+  Alike ds ds′ = (length ds ≡ length ds′) × (sumOf ds ≡ sumOf ds′)
 
-  same-sum : (ps : List ℕ) → sumOf (dosesBy kinds b ps) ≡ sumOf (dosesBy kinds′ b ps)
+  alike : (ps : List ℕ) → Alike (dosesBy kinds b ps) (dosesBy kinds′ b ps)
   unfolding dosesBy sumOf
-  same-sum [] = refl
-  same-sum (at ∷ rest) = go (isWeighed (kindAt b at)) (same-sum rest)
+  alike [] = (refl, refl)
+  alike (at ∷ rest) = go (isWeighed (kindAt b at)) (alike rest)
     where
-      go : (w : Bool) → sumOf (dosesBy kinds b rest) ≡ sumOf (dosesBy kinds′ b rest)
-          → sumOf (cond w (doseBy kinds b at ∷ dosesBy kinds b rest) (dosesBy kinds b rest))
-          ≡ sumOf (cond w (doseBy kinds′ b at ∷ dosesBy kinds′ b rest) (dosesBy kinds′ b rest))
-      go true h = omega arith
+      go : (w : Bool) → Alike (dosesBy kinds b rest) (dosesBy kinds′ b rest)
+          → Alike (cond w (doseBy kinds b at ∷ dosesBy kinds b rest) (dosesBy kinds b rest))
+          (cond w (doseBy kinds′ b at ∷ dosesBy kinds′ b rest) (dosesBy kinds′ b rest))
+      go true h = let n = h .0 in let m = h .1 in (omega arith, omega arith)
       go false h = h
 
 pub any-kinds : AnyKinds
-any-kinds kinds kinds′ b = (same-count kinds kinds′ b (places b), same-sum kinds kinds′ b (places b))
+any-kinds kinds kinds′ b = alike kinds kinds′ b (places b)
 
 module _ (earlier later : Kinds) (keeps : KeepsKinds earlier later) (b : List ℕ) where
   -- a weighed kind that is known has the same body by both
@@ -76,7 +68,12 @@ module _ (earlier later : Kinds) (keeps : KeepsKinds earlier later) (b : List �
       ap (λ (body : Body). withLot at body) (k .1 ∙ sym (keeps (kindAt b at) (k .0) (k .1)))
     where
       withLot : ℕ → Body → Dose
-      withLot at body = record { oxide = doseBy earlier b at .oxide; milligrams = doseBy earlier b at .milligrams; lot = record { 0 = lotIn body b (at + 1) } }
+      withLot at body =
+          record {
+            oxide = doseBy earlier b at .oxide;
+            milligrams = doseBy earlier b at .milligrams;
+            lot = record { 0 = lotIn body b (at + 1) };
+          }
 
   same-doses : (ps : List ℕ) → recordsCheck (knows earlier) b ps ≡ Pass → dosesBy earlier b ps ≡ dosesBy later b ps
   unfolding dosesBy

@@ -10,7 +10,6 @@ use lib.Seq.{take-append-seam, drop-append-seam, getD-drop, drop-drop}
 use native.Mathlib.Omega.{arith}
 use borrow.Author.Tests.{eqb-true, eqb-false}
 use Rattle.be.specs.Numbers.{be16At, be32At}
-use Rattle.book.specs.declared.dose.Dose.{Dose}
 use Rattle.book.specs.Book.{kindAt, recordEnd, oxidePlace, milligramsPlace, doseAt}
 use Rattle.book.specs.Rows.{BookRecord, rowBytes, Each, Sized, valueFrom, value, stated}
 use Rattle.book.proofs.DoseLaws.{read, lot-here, no-lot}

@@ -1,6 +1,6 @@
 -- A book's bytes as a row of records, as specs/RowTheorems states it: one-way, row-doses, row-sum, pass-is-row. For
 -- callers: of the kinds of an edition (known-hold), and of a lawful row (lawful-hold).
-use Prim.Native.Nat.{ℕ, zero, suc, _+_, _-_, _%_, _≤_, _<_}
+use Prim.Native.Nat.{ℕ, zero, suc, _+_, _-_, _≤_, _<_}
 use mathlib.Core.Path.{_≡_, refl, sym, ap, _∙_}
 use mathlib.Core.List.{List, [], _∷_, _++_}
 use mathlib.Core.Bool.{Bool, true, false, cond}

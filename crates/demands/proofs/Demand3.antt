@@ -1,14 +1,11 @@
 -- Demand 3 for every earlier and later edition, instances of editions-agree: demand3.
-use Prim.Native.Nat.{ℕ, _≤_, _<_}
-use mathlib.Core.Path.{_≡_, sym, _∙_}
+use Prim.Native.Nat.{ℕ, _≤_}
+use mathlib.Core.Path.{_≡_, _∙_}
 use mathlib.Core.Logic.{_⊎_, inl, inr}
 use mathlib.Core.List.{List}
 use native.Mathlib.Omega.{arith}
 use Rattle.format.specs.declared.verdict.Answer.{Answer}
-use Rattle.book.specs.Kinds.{lastEdition}
 use Rattle.reading.specs.Editions.{editionOf}
-use Rattle.reading.specs.Reading.{answerAt, readAnswer}
-use Rattle.reading.specs.Buffers.{Form, roomIn, leftAt, leftIn}
 use Rattle.demands.specs.Editions.{ByAdded, Agree}
 use Rattle.demands.specs.Demands.{ByBatch, PairAgrees, Demand3}
 use Rattle.demands.proofs.EditionTheorems.{editions-agree}

@@ -16,7 +16,7 @@ use Rattle.format.specs.Verdicts.{check, both}
 use Rattle.format.proofs.VerdictLaws.{both-fail, both-inverted}
 use Rattle.package.specs.Package.{soundCheck, signatureAt, headerAt}
 use Rattle.catalogue.specs.declared.Line.{Line}
-use Rattle.catalogue.specs.Lists.{Listed}
+use Rattle.catalogue.specs.Lists.{Listed, Rising, KeepsLines}
 use Rattle.index.specs.Lookup.{taggedIn}
 use Rattle.lines.specs.Lines.{linesOf, linesCheck}
 use Rattle.rules.specs.Rules.{rulesOver, rulesCheck}
@@ -32,7 +32,8 @@ use Rattle.reading.specs.Editions.{Edition, hasBatch, batchTag}
 use Rattle.reading.specs.Reading.{bookOf, weightIn, sumCheck, bookPart, openedCheck, checksAt, answerAs, answerAt}
 use Rattle.reading.specs.Buffers.{Form, roomIn, cells, leftAt}
 use Rattle.reading.proofs.AnswerLaws.{done, refused, pass-book}
-use Rattle.demands.specs.Editions.{Extends, batchLine, IsEdition, First, NoneLacks, lackingIn, Added, AddsLine, ByAdded, EditionsAgree}
+use Rattle.demands.specs.Editions.{Extends, batchLine, IsEdition, First, NoneLacks, lackingIn}
+use Rattle.demands.specs.Editions.{Added, AddsLine, ByAdded, EditionsAgree}
 use Rattle.demands.proofs.AgreementLaws.{Agree, same-first, agree-both}
 use Rattle.demands.proofs.BookAgreement.{records-agree, passed-none}
 use Rattle.demands.proofs.LineAgreement.{Refuses, refuses-stays, ByLine, lines-agree}
@@ -68,34 +69,33 @@ module _ (earlier later : Edition) (lawful : IsEdition earlier) (lawful′ : IsE
   late-stays v w (inl (line, a, r)) = inl (line, a, refuses-stays v w (line .tag) r)
   late-stays v w (inr (a, h)) = inr (a, both-fail w h)
 
-  run : (a a′ c c′ : Verdict) → Alike earlier later b a a′ → Alike earlier later b c c′ → Alike earlier later b (both a c) (both a′ c′)
+  run : (a a′ c c′ : Verdict) → Alike earlier later b a a′ → Alike earlier later b c c′
+      → Alike earlier later b (both a c) (both a′ c′)
   run = agree-both (Stops earlier b) (StopsAdded earlier later) early-stays late-stays
 
   module _ (s : List ℕ) where
-    signature-agrees : (section : Section)
-        → Alike earlier later b (linesOf (taggedIn s section) (earlier .signature)) (linesOf (taggedIn s section) (later .signature))
-    signature-agrees section =
-        sorted (lines-agree (taggedIn s section) _ _ (lawful .signatureRises) (lawful′ .signatureRises) (extends .signature))
+    -- the lines of one part
+    lines-alike : (section : Section) (first second : List Line)
+        → ((line : Line) → Added first second line → AddsLine earlier later line)
+        → Rising first → Rising second → KeepsLines first second
+        → Alike earlier later b (linesOf (taggedIn s section) first) (linesOf (taggedIn s section) second)
+    lines-alike section first second adds rises rises′ keeps =
+        sorted (lines-agree (taggedIn s section) first second rises rises′ keeps)
       where
-        sorted : {v w : Verdict} → (v ≡ w) ⊎ ByLine (taggedIn s section) (earlier .signature) (later .signature) w → Alike earlier later b v w
+        sorted : {v w : Verdict} → (v ≡ w) ⊎ ByLine (taggedIn s section) first second w → Alike earlier later b v w
         sorted (inl e) = inl e
-        sorted (inr (line, a, r)) = inr (inr (inl (line, inl a, r)))
-
-    header-agrees : (section : Section)
-        → Alike earlier later b (linesOf (taggedIn s section) (earlier .header)) (linesOf (taggedIn s section) (later .header))
-    header-agrees section =
-        sorted (lines-agree (taggedIn s section) _ _ (lawful .headerRises) (lawful′ .headerRises) (extends .header))
-      where
-        sorted : {v w : Verdict} → (v ≡ w) ⊎ ByLine (taggedIn s section) (earlier .header) (later .header) w → Alike earlier later b v w
-        sorted (inl e) = inl e
-        sorted (inr (line, a, r)) = inr (inr (inl (line, inr a, r)))
+        sorted (inr (line, a, r)) = inr (inr (inl (line, adds line a, r)))
 
     rules-agree : (len : ℕ) (signature header : Section)
         → Alike earlier later b (rulesCheck (earlier .signature) (earlier .header) s len signature header)
         (rulesCheck (later .signature) (later .header) s len signature header)
     unfolding rulesOver linesCheck
     rules-agree len signature header =
-        run _ _ _ _ (run _ _ _ _ (signature-agrees signature) (header-agrees header)) (inl refl)
+        run _ _ _ _
+        (run _ _ _ _
+        (lines-alike signature _ _ (λ line a. inl a) (lawful .signatureRises) (lawful′ .signatureRises) (extends .signature))
+        (lines-alike header _ _ (λ line a. inr a) (lawful .headerRises) (lawful′ .headerRises) (extends .header)))
+        (inl refl)
 
     -- check 23 runs exactly where 20002 has a line
     batch-kept : hasBatch earlier ≡ true → hasBatch later ≡ true
@@ -114,7 +114,8 @@ module _ (earlier later : Edition) (lawful : IsEdition earlier) (lawful′ : IsE
               let y : _≡_ {A = ℕ} 0 1 = cc in omega arith;
         }
 
-    sum-agrees : (header : Section) (sum : ℕ) → Alike earlier later b (sumCheck earlier s header sum) (sumCheck later s header sum)
+    sum-agrees : (header : Section) (sum : ℕ)
+        → Alike earlier later b (sumCheck earlier s header sum) (sumCheck later s header sum)
     unfolding sumCheck check
     sum-agrees header sum = go (hasBatch earlier) (hasBatch later) refl refl (eqb (weightIn s header) sum)
       where
@@ -133,7 +134,7 @@ module _ (earlier later : Edition) (lawful : IsEdition earlier) (lawful′ : IsE
       same-first (Stops earlier b) (StopsAdded earlier later) _ _ _
       (early (records-agree (knows (earlier .kinds)) (knows (later .kinds)) (known-kept earlier later extends) b (places b)))
     where
-      early : {v w : Verdict} → (v ≡ w) ⊎ ((p : ℕ) × (v ≡ Fail 20 p) × (lackingIn earlier b ≡ First p)) → Alike earlier later b v w
+      early : {v w : Verdict} → (v ≡ w) ⊎ Stops earlier b v → Alike earlier later b v w
       early (inl e) = inl e
       early (inr x) = inr (inl x)
 
@@ -162,7 +163,8 @@ added-line earlier later v (inl (line, a, r)) = (line, a)
 added-line earlier later v (inr (a, h)) = (batchLine, inr a)
 
 -- as an answer
-as-answer : (earlier later : Edition) (v : Verdict) (count : ℕ) → StopsAdded earlier later v → ByAdded earlier later (answerAs v count)
+as-answer : (earlier later : Edition) (v : Verdict) (count : ℕ) → StopsAdded earlier later v
+    → ByAdded earlier later (answerAs v count)
 as-answer earlier later v count (inl (line, a, inl h)) = inl (line, a, inl (rw h))
 as-answer earlier later v count (inl (line, a, inr h)) = inl (line, a, inr (rw h))
 as-answer earlier later v count (inr (a, h)) = inr (a, rw h)

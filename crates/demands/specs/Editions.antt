@@ -1,6 +1,6 @@
 -- Request 7: demand 3 for any catalogue and set of kinds that extends another, over the reading of such editions. Proved in
 -- proofs/ as editions-agree; editions 1 to 3 are instances (editions-lawful, editions-extend, editions-run).
-use Prim.Native.Nat.{ℕ, _≤_, _<_}
+use Prim.Native.Nat.{ℕ, _≤_}
 use mathlib.Core.Path.{_≡_}
 use mathlib.Core.Logic.{_⊎_, _≢_}
 use mathlib.Core.List.{List, [], _∷_}
@@ -114,7 +114,8 @@ pub record RunsAt (form : Form) (edition : ℕ) (s before : List ℕ) : Type 0 w
   pub leaves : leftIn form edition s before ≡ leftAt form (editionOf edition) s before
 
 abbrev pub EditionsRun : Type 0
-EditionsRun = (form : Form) (edition : ℕ) → 1 ≤ edition → edition ≤ lastEdition → (s before : List ℕ) → RunsAt form edition s before
+EditionsRun =
+    (form : Form) (edition : ℕ) → 1 ≤ edition → edition ≤ lastEdition → (s before : List ℕ) → RunsAt form edition s before
 
 -- of the editions by their numbers, a line that a later one adds is 20002's, and the earlier is edition 1
 abbrev pub AddsBatch : Type 0

@@ -1,9 +1,10 @@
--- What document 01, as requests 2, 3, 5 and 7 amend it, says a right package is, section by section: no order and no numbers of checks.
+-- What document 01, as requests 2, 3, 5 and 7 amend it, says a right package is, section by section: no order and no numbers of
+-- checks.
 use Prim.Native.Nat.{ℕ, zero, suc, _+_, _-_, _*_, _%_, _≤_, _<_}
 use mathlib.Core.Path.{_≡_}
 use mathlib.Core.Logic.{_⊎_, _≢_}
 use mathlib.Core.List.{List, _∷_, [], _++_}
-use mathlib.Core.Bool.{Bool, true, cond}
+use mathlib.Core.Bool.{Bool, cond}
 use lib.ListN.{length, getD, take, drop}
 use lib.Dec.{eqb}
 use Rattle.be.specs.Numbers.{be16At, be32At}

@@ -18,8 +18,8 @@ pub fn read_both(
     early: &mut [u32],
     late: &mut [u32],
 ) -> Answers
-    ensures { λ r. ⌜ ReadBoth earlier later (now (pkg .entry)) (now (early .entry)) (now (late .entry)) (r .first) (r .second)
-        (now (early .exit)) (now (late .exit)) ⌝ }
+    ensures { λ r. ⌜ ReadBoth earlier later (now (pkg .entry)) (now (early .entry)) (now (late .entry)) (r .first)
+        (r .second) (now (early .exit)) (now (late .exit)) ⌝ }
 {
     let first = reading::read(earlier, pkg, early);
     let second = reading::read(later, pkg, late);
@@ -34,8 +34,8 @@ pub fn read_both_bytes(
     early: &mut [u8],
     late: &mut [u8],
 ) -> Answers
-    ensures { λ r. ⌜ ReadBothBytes earlier later (now (pkg .entry)) (now (early .entry)) (now (late .entry)) (r .first) (r .second)
-        (now (early .exit)) (now (late .exit)) ⌝ }
+    ensures { λ r. ⌜ ReadBothBytes earlier later (now (pkg .entry)) (now (early .entry)) (now (late .entry)) (r .first)
+        (r .second) (now (early .exit)) (now (late .exit)) ⌝ }
 {
     let first = reading::read_bytes(earlier, pkg, early);
     let second = reading::read_bytes(later, pkg, late);

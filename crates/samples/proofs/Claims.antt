@@ -1,4 +1,5 @@
--- The samples marked P, those of requests 2, 3, 5 and 7 and of check 13, and the smallest package that is written, by computation.
+-- The samples marked P, those of requests 2, 3, 5 and 7 and of check 13, and the smallest package that is written, by
+-- computation.
 use lib.Dec.{T}
 use Rattle.be.specs.Numbers.{be16At, be32At}
 use Rattle.be.specs.Bytes.{sameBytes}

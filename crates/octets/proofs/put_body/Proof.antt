@@ -58,7 +58,8 @@ same-length c = search needs
 
 returns : tie.Need-returns
 returns c =
-    let known = c .before .before .before .before .before .before .before .before .before .before .before .before .before .before .before in
+    let at-eight = c .before .before .before .before in
+    let known = at-eight .before .before .before .before .before .before .before .before .before .before .before in
     let args = known .before .before .args in
     search (laws.copied (args .book .now) (λ k. omega (arith, known .shared-slice-known .given k)))
 
