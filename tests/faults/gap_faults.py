@@ -11,7 +11,7 @@ SIZE = "    check(2, package.len() <= MAX_PACKAGE, 0)?;\n"
 LEAD = "    check_lead(&package[..LEAD_SIZE])?;\n"
 SIGNATURE = "    let signature = Structure::read(package, LEAD_SIZE, Part::Signature)?;\n"
 HEADER = "    let header = Structure::read(package, header_start, Part::Header)?;\n"
-EDITION = "    check(1, edition == 1 || edition == 2, 0)?;\n"
+EDITION = "    check(1, (1..=3).contains(&edition), 0)?;\n"
 OPENED = "    // Checks 2 to 13 and 28.\n    let opened = sound(package)?;\n"
 LOOK_UP = "    let structure = sound(package)?.structure(structure);\n    match"
 FOUND = "    let (structure, record) = look_up(package, structure, tag, ty)?;\n"
@@ -250,6 +250,7 @@ FAULTS = [
     (28, "accepted where all else is right", *in_reading("later.map_err(|_| stray)")),
     (28, "not at edition 1", *in_reading("if edition == 1 { later } else { Err(stray) }")),
     (28, "not at edition 2", *in_reading("if edition == 2 { later } else { Err(stray) }")),
+    (28, "not at edition 3", *in_reading("if edition == 3 { later } else { Err(stray) }")),
     (28, "16 for a stray byte", *in_reading("check(16, later.is_err(), 1000).and(Err(stray))")),
     (28, "27 for a stray byte", *in_reading("check(27, later.is_err(), 1004).and(Err(stray))")),
     (28, "not in look-ups", *not_where(LOOK_UP, "true")),
