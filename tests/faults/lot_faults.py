@@ -32,6 +32,7 @@ NUMBERS_DOC = (
     "    doses\n        .iter()\n        .flat_map(|dose| "
 )
 TWO_NUMBERS = "[u32::from(dose.oxide), dose.milligrams]"
+READING = "fn doses(edition: u32, package: &[u8], room: usize) -> Checked<Vec<Dose>> {\n"
 
 
 def of_lot(value):
@@ -53,9 +54,24 @@ def lots_after(change):
 
 def body_of(size):
     """AA with a body of another size; its lot is read where it stands, or behind the book 0."""
-    end = BODY_END.replace("usize::from(kind % 16)", f"if kind == WITH_LOT {{ {size} }} else {{ usize::from(kind % 16) }}")
+    of_kind = "usize::from(kind % 16)"
+    end = BODY_END.replace(of_kind, f"if kind == WITH_LOT {{ {size} }} else {{ {of_kind} }}")
     dose = OF_BODY.replace("&book[body..end]", "&[&book[body..], &[0; 10]].concat()")
     return BODY, BODY.replace(BODY_END, end).replace(OF_BODY, dose)
+
+
+def instead(numbers):
+    """Edition 3 answers as edition 1 does where one of these numbers is about 20002."""
+    return READING, (
+        READING
+        + "    match rightly(edition, package, room) {\n"
+        + f"        Err(one) if edition == 3 && one.place == BATCH_WEIGHT && matches!(one.number, {numbers}) => {{\n"
+        + "            rightly(1, package, room)\n"
+        + "        }\n"
+        + "        other => other,\n"
+        + "    }\n"
+        + "}\n\n"
+        + READING.replace("fn doses", "fn rightly"))
 
 
 def at_edition_3(text):
@@ -113,7 +129,8 @@ LOTS = [
      "            let before = same.map_or(0, |one| one.lot);\n"
      "            doses.push(Dose { lot: if kind == WITH_LOT { dose.lot } else { before }, ..dose });\n"),
     ("same oxide and lot put together", PUSH,
-     "            match doses.iter_mut().find(|one: &&mut Dose| one.lot != 0 && (one.oxide, one.lot) == (dose.oxide, dose.lot)) {\n"
+     "            let same = |one: &&mut Dose| one.lot != 0 && (one.oxide, one.lot) == (dose.oxide, dose.lot);\n"
+     "            match doses.iter_mut().find(same) {\n"
      "                Some(one) => one.milligrams += dose.milligrams,\n"
      "                None => doses.push(dose),\n"
      "            }\n"),
@@ -127,7 +144,8 @@ LOTS = [
     ("bodies of 8", *body_of(8)),
     ("bodies of 9", *body_of(9)),
     ("bodies of 11", *body_of(11)),
-    ("a lot's last byte may lack", END, END.replace("end <= book.len()", "end <= book.len() + usize::from(kind == WITH_LOT)")),
+    ("a lot's last byte may lack", END, END.replace(
+     "end <= book.len()", "end <= book.len() + usize::from(kind == WITH_LOT)")),
 
     # The dose buffer.
     ("before the milligrams", NUMBERS, "[u32::from(dose.oxide), dose.lot, dose.milligrams]"),
@@ -169,7 +187,8 @@ EDITIONS = [
 
     ("AA at edition 2", "(WITH_LOT, 3)", "(WITH_LOT, 2)"),
     ("AA at edition 1", "(WITH_LOT, 3)", "(WITH_LOT, 1)"),
-    ("AA at edition 1 and not at 2", IS_KNOWN, "known == kind && (since <= edition || kind == WITH_LOT && edition == 1)"),
+    ("AA at edition 1 and not at 2", IS_KNOWN,
+     "known == kind && (since <= edition || kind == WITH_LOT && edition == 1)"),
     ("AA unknown", "(WITH_LOT, 3)", "(WITH_LOT, 4)"),
     ("AA is a remark", "kind >= 128", "kind >= 128 && kind != WITH_LOT"),
     ("2A is weighed", "kind >= 128", "kind >= 128 || kind == 0x2A"),
@@ -203,11 +222,13 @@ EDITIONS = [
                        "    let some = doses.iter().any(|dose: &Dose| dose.lot != 0);\n"
                        "    check(20, edition != 3 || some || doses.is_empty(), 0)?;\n    Ok(doses)\n")),
     ("other oxides", CHECK_22, CHECK_22 + "            check(22, edition != 3 || dose.oxide < 999, place)?;\n"),
-    ("other milligrams", CHECK_22, CHECK_22 + "            check(22, edition != 3 || dose.milligrams < 5_000_000, place)?;\n"),
+    ("other milligrams", CHECK_22,
+     CHECK_22 + "            check(22, edition != 3 || dose.milligrams < 5_000_000, place)?;\n"),
     ("ranges not tested", IS_RIGHT, "check(22, dose.is_right() || edition == 3, place)"),
     ("AA may state 5,000,001 milligrams", IS_RIGHT,
      "check(22, dose.is_right() || kind == WITH_LOT && dose.milligrams == 5_000_001, place)"),
-    ("AA may state oxide 1000", IS_RIGHT, "check(22, dose.is_right() || kind == WITH_LOT && dose.oxide == 1000, place)"),
+    ("AA may state oxide 1000", IS_RIGHT,
+     "check(22, dose.is_right() || kind == WITH_LOT && dose.oxide == 1000, place)"),
 
     ("20002 has no line", LINE_EXISTS, "self.tag != BATCH_WEIGHT || edition == 2"),
     ("20002 has a line at edition 3 alone", LINE_EXISTS, "self.tag != BATCH_WEIGHT || edition == 3"),
@@ -217,7 +238,11 @@ EDITIONS = [
      .replace("= record.ty ==", "= (record.ty ==")),
     ("20002 of any count", AGREES, AGREES.replace("line.count.allows(record.count)",
      "(line.count.allows(record.count) || edition == 3 && line.tag == BATCH_WEIGHT)")),
-    ("20003 asked", HEADER_LINES, HEADER_LINES + "    check(14, edition < 3 || header.tagged(20003).is_some(), 20003)?;\n"),
+    ("without 20002 as edition 1", *instead("14")),
+    ("with another 20002 as edition 1", *instead("15")),
+    ("with another sum as edition 1", *instead("23")),
+    ("20003 asked", HEADER_LINES,
+     HEADER_LINES + "    check(14, edition < 3 || header.tagged(20003).is_some(), 20003)?;\n"),
     ("1045 has no line", LINE_EXISTS, "(" + LINE_EXISTS + ") && (self.tag != 1045 || edition < 3)"),
     ("required tags may be absent", "check(14, line.status != Required, place)",
      "check(14, line.status != Required || edition == 3 && line.tag == 1009, place)"),
@@ -231,8 +256,10 @@ EDITIONS = [
      "        let most = book::sum(&doses) <= u64::from(number(&header, BATCH_WEIGHT));\n"
      "        check(23, right || edition == 3 && most, BATCH_WEIGHT as usize)?;\n"),
     ("no check 24", CHECK_24, CHECK_24.replace("room >= needed", "room >= needed || edition == 3")),
-    ("one number more asked", CHECK_24, CHECK_24.replace("room >= needed", "room >= needed + usize::from(edition == 3)")),
-    ("more room at editions 1 and 2", CHECK_24, CHECK_24.replace("room >= needed", "room >= needed + usize::from(edition < 3)")),
+    ("one number more asked", CHECK_24,
+     CHECK_24.replace("room >= needed", "room >= needed + usize::from(edition == 3)")),
+    ("more room at editions 1 and 2", CHECK_24,
+     CHECK_24.replace("room >= needed", "room >= needed + usize::from(edition < 3)")),
     ("rest cleared", COUNT_C,
      "            if edition == 3 {\n                buffer[12 * doses.len()..].fill(0);\n"
      "            }\n" + COUNT_C),
