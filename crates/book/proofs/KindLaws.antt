@@ -1,16 +1,18 @@
--- What is asked of weighed records only: remark, asked, asked-dose. For callers, known-kept: a later edition knows the
--- kinds of an earlier one.
-use Prim.Native.Nat.{ℕ, _≤_}
+-- What is asked of weighed records only: remark, asked, asked-dose. Known kinds and their bodies: held, held-if, six,
+-- lot-of. For callers, kinds-kept: a later edition has the bodies of an earlier one.
+use Prim.Native.Nat.{ℕ, _+_, _≤_}
 use mathlib.Core.Path.{_≡_, refl, ap, _∙_}
-use mathlib.Core.List.{List}
-use mathlib.Core.Bool.{Bool, true, false, cond, not, _&&_, _||_, or-true}
+use mathlib.Core.List.{List, [], _∷_}
+use mathlib.Core.Bool.{Bool, true, false, cond, not}
 use lib.Dec.{eqb, leb}
 use native.Mathlib.Omega.{arith}
-use borrow.Author.Tests.{le-leb, leb-true}
+use borrow.Author.Tests.{le-leb, leb-true, eqb-true}
 use Rattle.format.proofs.VerdictLaws.{told, untold}
 use Rattle.book.specs.declared.dose.Dose.{Dose}
-use Rattle.book.specs.Kinds.{isWeighed, isKnown}
-use Rattle.book.specs.Book.{kindAt, doseAt, doseLawful, weighedRight}
+use Rattle.be.specs.Numbers.{be32At}
+use Rattle.book.specs.Kinds.{isWeighed, bodySize, Part, Oxide, Milligrams, Lot, Other, Body, Unknown, Holds, isHeld}
+use Rattle.book.specs.Kinds.{KindRow, kindTable, kindsIn, kindsOf, isKnown, lastEdition}
+use Rattle.book.specs.Book.{kindAt, lotFrom, lotIn, doseAt, doseLawful, weighedRight}
 
 -- r is the answer of the test
 module _ (kind : ℕ) (rule : Bool) {r : Bool} (h : r ≡ isWeighed kind) where
@@ -24,20 +26,75 @@ pub asked-dose : (b : List ℕ) (at : ℕ) {dose : Dose} {r v : Bool} → r ≡ 
     → dose ≡ doseAt b at → v ≡ doseLawful dose → v ≡ weighedRight b at
 asked-dose b at h k e f = asked (kindAt b at) (doseLawful (doseAt b at)) h k (f ∙ ap doseLawful e)
 
-or-kept : (x y : Bool) {x′ y′ : Bool} → (x ≡ true → x′ ≡ true) → (y ≡ true → y′ ≡ true) → (x || y) ≡ true
-    → (x′ || y′) ≡ true
-or-kept true y f g h = rw (f refl)
-or-kept false y {x′} f g h = rw (g h) (or-true x′)
+-- a kind that is known is known by its body
+pub held : (body : Body) → isHeld body ≡ true → (parts : List Part) × (body ≡ Holds parts)
+held Unknown h = let z : _≡_ {A = ℕ} 0 1 = cc in absurd (omega arith)
+held (Holds parts) h = (parts, refl)
 
-module _ (edition later kind : ℕ) (l : edition ≤ later) where
-  listed : (from number : ℕ) → (eqb kind number && leb from edition) ≡ true → (eqb kind number && leb from later) ≡ true
-  listed from number = go (eqb kind number)
+pub held-if : (test : Bool) (parts : List Part) → isHeld (cond test (Holds parts) Unknown) ≡ test
+held-if true parts = refl
+held-if false parts = refl
+
+-- a later edition has the bodies of an earlier one
+module _ (edition later : ℕ) (l : edition ≤ later) (kind : ℕ) (parts : List Part) where
+  row-kept : (from : ℕ) (body : List Part) → cond (leb from edition) (Holds body) Unknown ≡ Holds parts
+      → cond (leb from later) (Holds body) Unknown ≡ Holds parts
+  row-kept from body = go (leb from edition) refl
     where
-      go : (t : Bool) → (t && leb from edition) ≡ true → (t && leb from later) ≡ true
-      go true h = le-leb from later (let k = leb-true from edition h in omega arith)
-      go false h = h
+      go : (t : Bool) → leb from edition ≡ t → cond t (Holds body) Unknown ≡ Holds parts
+          → cond (leb from later) (Holds body) Unknown ≡ Holds parts
+      go true e h = rw (le-leb from later (let k = leb-true from edition e in omega arith)) h
+      go false e h = let z : _≡_ {A = ℕ} 0 1 = cc in absurd (omega arith)
 
-  pub known-kept : isKnown edition kind ≡ true → isKnown later kind ≡ true
-  unfolding isKnown
-  known-kept =
-      or-kept _ _ (or-kept _ _ (or-kept _ _ (listed 1 0x02) (listed 1 0x86)) (listed 2 0x14)) (listed 2 0x98)
+  pub kinds-kept : (rows : List KindRow) → kindsIn rows edition kind ≡ Holds parts → kindsIn rows later kind ≡ Holds parts
+  unfolding kindsIn
+  kinds-kept [] h = h
+  kinds-kept (r ∷ rest) h = go (eqb kind (r .kind)) (kinds-kept rest) h
+    where
+      go : (t : Bool) → (kindsIn rest edition kind ≡ Holds parts → kindsIn rest later kind ≡ Holds parts)
+          → cond t (cond (leb (r .edition) edition) (Holds (r .body)) Unknown) (kindsIn rest edition kind) ≡ Holds parts
+          → cond t (cond (leb (r .edition) later) (Holds (r .body)) Unknown) (kindsIn rest later kind) ≡ Holds parts
+      go true later-rows k = row-kept (r .edition) (r .body) k
+      go false later-rows k = later-rows k
+
+-- a weighed kind that is known has a body of six bytes or more
+pub six : (edition kind : ℕ) → isWeighed kind ≡ true → isKnown edition kind ≡ true → 6 ≤ bodySize kind
+unfolding kindsIn kindTable
+six edition kind h k =
+    go (eqb kind 0x02) (eqb kind 0x86) (eqb kind 0x14) (eqb kind 0x98) (eqb kind 0xAA) refl refl refl refl refl k
+  where
+    if : ℕ → List Part → Body
+    if from parts = cond (leb from edition) (Holds parts) Unknown
+
+    go : (p q r t u : Bool) → eqb kind 0x02 ≡ p → eqb kind 0x86 ≡ q → eqb kind 0x14 ≡ r → eqb kind 0x98 ≡ t
+        → eqb kind 0xAA ≡ u
+        → isHeld (cond p (if 1 (Other 2 ∷ [])) (cond q (if 1 (Oxide ∷ Milligrams ∷ [])) (cond r (if 2 (Other 4 ∷ []))
+        (cond t (if 2 (Oxide ∷ Milligrams ∷ Other 2 ∷ [])) (cond u (if 3 (Oxide ∷ Milligrams ∷ Lot ∷ [])) Unknown)))))
+        ≡ true
+        → 6 ≤ bodySize kind
+    go true q r t u a b c d e z = let w = leb-true 128 kind h in let f = eqb-true kind 0x02 a in absurd (omega arith)
+    go false true r t u a b c d e z = rw (eqb-true kind 0x86 b) (omega arith)
+    go false false true t u a b c d e z = let w = leb-true 128 kind h in let f = eqb-true kind 0x14 c in absurd (omega arith)
+    go false false false true u a b c d e z = rw (eqb-true kind 0x98 d) (omega arith)
+    go false false false false true a b c d e z = rw (eqb-true kind 0xAA e) (omega arith)
+    go false false false false false a b c d e z = let y : _≡_ {A = ℕ} 0 1 = cc in absurd (omega arith)
+
+-- of all kinds AA alone has a lot, right behind its milligrams
+pub lot-of : (kind : ℕ) (b : List ℕ) (at : ℕ)
+    → lotIn (kindsOf lastEdition kind) b (at + 1) ≡ cond (eqb kind 0xAA) (be32At b (at + 7)) 0
+unfolding kindsIn kindTable lotFrom
+lot-of kind b at =
+    go (eqb kind 0x02) (eqb kind 0x86) (eqb kind 0x14) (eqb kind 0x98) refl refl refl refl
+  where
+    go : (p q r t : Bool) → eqb kind 0x02 ≡ p → eqb kind 0x86 ≡ q → eqb kind 0x14 ≡ r → eqb kind 0x98 ≡ t
+        → lotIn (kindsOf lastEdition kind) b (at + 1) ≡ cond (eqb kind 0xAA) (be32At b (at + 7)) 0
+    go true q r t a c d e = rw (eqb-true kind 0x02 a)
+    go false true r t a c d e = rw (eqb-true kind 0x86 c)
+    go false false true t a c d e = rw (eqb-true kind 0x14 d)
+    go false false false true a c d e = rw (eqb-true kind 0x98 e)
+    go false false false false a c d e = rw (a, c, d, e) (last (eqb kind 0xAA))
+      where
+        last : (u : Bool) → lotIn (cond u (Holds (Oxide ∷ Milligrams ∷ Lot ∷ [])) Unknown) b (at + 1)
+            ≡ cond u (be32At b (at + 7)) 0
+        last true = let k : at + 1 + 2 + 4 ≡ at + 7 = omega arith in rw k
+        last false = refl

@@ -31,7 +31,7 @@ use Rattle.book.specs.Book.{
   lengthCheck,
   bookCheck,
 }
-use Rattle.book.specs.Doses.{dosesOf, doses, sumOf, weighedAs, weighed}
+use Rattle.book.specs.Doses.{dosesBy, dosesOf, doses, sumOf, weighedAs, weighed}
 use Rattle.book.proofs.WeighLaws.{short}
 
 -- 22: oxide is 1 to 999, milligrams 1 to 5,000,000
@@ -85,7 +85,7 @@ places-few b (suc n) at = go (leb (length b) at) (places-few b n (recordEnd b at
     go false h = omega arith
 
 doses-few : (b ps : List ℕ) → length (dosesOf b ps) ≤ length ps
-unfolding dosesOf
+unfolding dosesBy
 doses-few b [] = omega arith
 doses-few b (at ∷ rest) = go (isWeighed (kindAt b at)) (doses-few b rest)
   where

@@ -3,9 +3,8 @@
 use Prim.Native.Nat.{ℕ, _+_, _-_, _≤_, _<_}
 use mathlib.Core.Path.{_≡_, refl, sym, ap, _∙_}
 use mathlib.Core.List.{List, [], _∷_}
-use mathlib.Core.Bool.{Bool, true, false, cond, not, _&&_, _||_}
-use lib.Dec.{eqb, leb}
-use borrow.Author.Tests.{le-leb, lt-leb, leb-true, eqb-true, not-true, not-false}
+use mathlib.Core.Bool.{Bool, true, false, cond, not}
+use borrow.Author.Tests.{le-leb, lt-leb, not-true, not-false}
 use lib.ListN.{length}
 use native.Mathlib.Omega.{arith}
 use Rattle.format.specs.declared.verdict.Verdict.{Verdict}
@@ -14,18 +13,19 @@ use Rattle.format.specs.Verdicts.{both, check}
 use Rattle.format.proofs.VerdictLaws.{both-pass, both-fail}
 use Rattle.book.specs.declared.dose.Dose.{Dose}
 use Rattle.book.specs.declared.Weighed.the-variants.{Doses, Unsound}
-use Rattle.book.specs.Kinds.{isWeighed, bodySize, isKnown}
+use Rattle.book.specs.Kinds.{isWeighed, isKnown}
 use Rattle.book.specs.Book.{kindAt, recordEnd, placesFrom, doseAt, bodyFits, doseLawful, recordCheck, recordsCheck}
-use Rattle.book.specs.Doses.{dosesOf, sumOf, weighedAs}
+use Rattle.book.specs.Doses.{dosesBy, dosesOf, sumOf, weighedAs}
 use Rattle.book.proofs.PlaceLaws.{first, none}
+use Rattle.book.proofs.KindLaws.{six}
 
 doses-step : (b rest : List ℕ) (at : ℕ)
     → dosesOf b (at ∷ rest) ≡ cond (isWeighed (kindAt b at)) (doseAt b at ∷ dosesOf b rest) (dosesOf b rest)
-unfolding dosesOf
+unfolding dosesBy
 doses-step b rest at = refl
 
 doses-nil : (b : List ℕ) → dosesOf b [] ≡ []
-unfolding dosesOf
+unfolding dosesBy
 doses-nil b = refl
 
 pub check-step : (known : ℕ → Bool) (b rest : List ℕ) (at : ℕ)
@@ -36,20 +36,6 @@ check-step known b rest at = refl
 pub check-nil : (known : ℕ → Bool) (b : List ℕ) → recordsCheck known b [] ≡ Pass
 unfolding recordsCheck
 check-nil known b = refl
-
--- a weighed kind that is known has a body of six bytes or more
-pub six : (edition kind : ℕ) → isWeighed kind ≡ true → isKnown edition kind ≡ true → 6 ≤ bodySize kind
-unfolding isKnown
-six edition kind h k = go (eqb kind 0x02) (eqb kind 0x86) (eqb kind 0x14) (eqb kind 0x98) refl refl refl refl k
-  where
-    go : (p q r t : Bool) → eqb kind 0x02 ≡ p → eqb kind 0x86 ≡ q → eqb kind 0x14 ≡ r → eqb kind 0x98 ≡ t
-        → ((p && leb 1 edition) || (q && leb 1 edition) || (r && leb 2 edition) || (t && leb 2 edition)) ≡ true
-        → 6 ≤ bodySize kind
-    go true q r t a b c d z = let w = leb-true 128 kind h in let e = eqb-true kind 0x02 a in absurd (omega arith)
-    go false true r t a b c d z = rw (eqb-true kind 0x86 b) (omega arith)
-    go false false true t a b c d z = let w = leb-true 128 kind h in let e = eqb-true kind 0x14 c in absurd (omega arith)
-    go false false false true a b c d z = rw (eqb-true kind 0x98 d) (omega arith)
-    go false false false false a b c d z = let y : _≡_ {A = ℕ} 0 1 = cc in absurd (omega arith)
 
 -- w says whether the record is weighed, and end is where the next one starts
 module _ (b : List ℕ) (at : ℕ) (l : at < length b) {end : ℕ} (e : end ≡ recordEnd b at) where

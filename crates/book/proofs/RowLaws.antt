@@ -3,14 +3,17 @@
 use Prim.Native.Nat.{ℕ, suc, _+_, _-_, _*_, _%_, _≤_, _<_}
 use mathlib.Core.Path.{_≡_, refl, sym, ap, _∙_}
 use mathlib.Core.List.{List, [], _∷_, _++_}
+use mathlib.Core.Bool.{Bool, true, false}
+use lib.Dec.{eqb}
 use lib.ListN.{length, getD, take, drop, length-append, length-drop, List·getD-append}
 use lib.Seq.{take-append-seam, drop-append-seam, getD-drop, drop-drop}
 use native.Mathlib.Omega.{arith}
+use borrow.Author.Tests.{eqb-true, eqb-false}
 use Rattle.be.specs.Numbers.{be16At, be32At}
 use Rattle.book.specs.declared.dose.Dose.{Dose}
 use Rattle.book.specs.Book.{kindAt, recordEnd, oxidePlace, milligramsPlace, doseAt}
 use Rattle.book.specs.Rows.{BookRecord, rowBytes, Each, Sized, valueFrom, value, stated}
-use Rattle.book.proofs.DoseLaws.{read}
+use Rattle.book.proofs.DoseLaws.{read, lot-here, no-lot}
 
 pub row-none : rowBytes [] ≡ []
 unfolding rowBytes
@@ -113,5 +116,31 @@ module _ (b : List ℕ) (at : ℕ) (r : BookRecord) (rest : List ℕ) (h : drop 
           body-at (at + milligramsPlace + 3) 5 (omega arith) (omega arith),
         )
 
-    pub dose-here : stated r ≡ doseAt b at
-    dose-here = read b at (sym oxide-here) (sym milligrams-here)
+    -- kind AA has 10 bytes, of which the last four are the lot
+    lot-bytes : length (r .body) ≡ r .kind % 16 → r .kind ≡ 0xAA → value (take 4 (drop 6 (r .body))) ≡ be32At b (at + 7)
+    unfolding be32At
+    lot-bytes s k =
+        let ten : length (r .body) ≡ 10 = s ∙ ap (λ (n : ℕ). n % 16) k in
+        rw (
+          four (drop 6 (r .body)) (omega (arith, length-drop 6 (r .body))),
+          getD-drop 6 (r .body) 0 0,
+          getD-drop 6 (r .body) 1 0,
+          getD-drop 6 (r .body) 2 0,
+          getD-drop 6 (r .body) 3 0,
+          body-at (at + 7) 6 (omega arith) (omega arith),
+          body-at (at + 7 + 1) 7 (omega arith) (omega arith),
+          body-at (at + 7 + 2) 8 (omega arith) (omega arith),
+          body-at (at + 7 + 3) 9 (omega arith) (omega arith),
+        )
+
+    lot-stated : length (r .body) ≡ r .kind % 16 → stated r .lot ≡ doseAt b at .lot
+    lot-stated s = go (eqb (r .kind) 0xAA) refl
+      where
+        go : (t : Bool) → eqb (r .kind) 0xAA ≡ t → stated r .lot ≡ doseAt b at .lot
+        go true e =
+            let k = eqb-true (r .kind) 0xAA e in
+            rw e (lot-here b at (kind-here ∙ k) (lot-bytes s k))
+        go false e = rw e (no-lot b at (λ k. eqb-false (r .kind) 0xAA e (sym kind-here ∙ k)))
+
+    pub dose-here : length (r .body) ≡ r .kind % 16 → stated r ≡ doseAt b at
+    dose-here s = read b at (sym oxide-here) (sym milligrams-here) (lot-stated s)

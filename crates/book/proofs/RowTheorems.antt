@@ -22,7 +22,8 @@ use Rattle.book.specs.Rows.{BookRecord, rowBytes, Each, Sized, stated, s
 use Rattle.book.specs.RowTheorems.{OneRow, HoldsDose, HoldDoses, PassIsRow, RowDoses, RowSum}
 use Rattle.book.proofs.PlaceLaws.{none, step}
 use Rattle.book.proofs.DoseLaws.{weight-last}
-use Rattle.book.proofs.RecordsLaws.{six, walk, weighed, remark, no-doses, check-step, check-nil}
+use Rattle.book.proofs.RecordsLaws.{walk, weighed, remark, no-doses, check-step, check-nil}
+use Rattle.book.proofs.KindLaws.{six}
 use Rattle.book.proofs.PassLaws.{lawful-pass, record-pass, pass-first}
 use Rattle.book.proofs.RowLaws as rows
 
@@ -68,7 +69,7 @@ module _ (b : List ℕ) (at : ℕ) (r : BookRecord) (rest : List BookRecord) (h 
       go : (w : Bool) → leb 128 (r .kind) ≡ w → dosesOf b (placesFrom b (length b - at) at) ≡ statedDoses (r ∷ rest)
       go true e =
           weighed b at (rows.inside b at r (rowBytes rest) here) (rows.end-here b at r (rowBytes rest) here s)
-          {w = true} (weighed-as e) refl (rows.dose-here b at r (rowBytes rest) here (d (leb-true 128 (r .kind) e)))
+          {w = true} (weighed-as e) refl (rows.dose-here b at r (rowBytes rest) here (d (leb-true 128 (r .kind) e)) s)
           ∙ sym (stated-step r rest ∙ rw (e, later))
       go false e =
           remark b at (rows.inside b at r (rowBytes rest) here) (rows.end-here b at r (rowBytes rest) here s)
@@ -114,7 +115,7 @@ module _ (known : ℕ → Bool) (hold : HoldDoses known) (b : List ℕ) where
       let e = rows.end-here b at r (rowBytes rest) from s in
       let f = rows.ends b at r (rowBytes rest) from in
       let dose : 128 ≤ r .kind → stated r ≡ doseAt b at =
-      λ w. let m = hold (r .kind) (l w .kind) w in rows.dose-here b at r (rowBytes rest) from (omega arith) in
+      λ w. let m = hold (r .kind) (l w .kind) w in rows.dose-here b at r (rowBytes rest) from (omega arith) s in
       rw (
         asked (kindAt b at) (known (kindAt b at)) (λ w. ap known k ∙ l (omega arith) .kind),
         le-leb (recordEnd b at) (length b) (omega arith),
@@ -160,7 +161,7 @@ module _ (known : ℕ → Bool) (hold : HoldDoses known) (b : List ℕ) where
         let o : doseLawful (doseAt b at) ≡ true = rw t at (f .2) in
         let six = hold (kindAt b at) k w in
         let size = there-sized in
-        let d = rows.dose-here b at (there at) (drop (recordEnd b at) b) there-bytes (omega arith) in
+        let d = rows.dose-here b at (there at) (drop (recordEnd b at) b) there-bytes (omega arith) size in
         let u = lawful-pass (stated (there at)) (ap doseLawful d ∙ o) in
         record { kind = k; oxide = (u .0, u .1); milligrams = (u .2, u .3) }
 

@@ -9,7 +9,8 @@ use Rattle.format.specs.declared.verdict.Verdict.{Verdict}
 use Rattle.format.specs.declared.verdict.Verdict.the-variants.{Pass}
 use Rattle.format.specs.Verdicts.{check, both}
 use Rattle.book.specs.declared.dose.Dose.{Dose}
-use Rattle.book.specs.Kinds.{isWeighed, bodySize, isBare}
+use Rattle.book.specs.Kinds.{isWeighed, bodySize, isBare, Part, Oxide, Milligrams, Lot, Other, partSize}
+use Rattle.book.specs.Kinds.{Body, Unknown, Holds, Kinds, kindsOf, lastEdition}
 
 -- a book is at most 4,096 bytes long, and is held by tag 20001
 abbrev pub bookLimit : ℕ
@@ -45,12 +46,30 @@ oxidePlace = 1
 abbrev pub milligramsPlace : ℕ
 milligramsPlace = 3
 
-abbrev pub doseAt : List ℕ → ℕ → Dose
-doseAt b at =
+-- the lot in a body from a place on: 4 bytes where the body has that part, else 0
+unfoldable pub lotFrom : List Part → List ℕ → ℕ → ℕ
+lotFrom [] b at = 0
+lotFrom (Lot ∷ rest) b at = be32At b at
+lotFrom (Oxide ∷ rest) b at = lotFrom rest b (at + partSize Oxide)
+lotFrom (Milligrams ∷ rest) b at = lotFrom rest b (at + partSize Milligrams)
+lotFrom (Other size ∷ rest) b at = lotFrom rest b (at + partSize (Other size))
+
+abbrev pub lotIn : Body → List ℕ → ℕ → ℕ
+lotIn Unknown b at = 0
+lotIn (Holds parts) b at = lotFrom parts b at
+
+-- the dose of the weighed record at a place, by a set of kinds
+abbrev pub doseBy : Kinds → List ℕ → ℕ → Dose
+doseBy kinds b at =
     record {
       oxide = record { 0 = be16At b (at + oxidePlace) };
       milligrams = record { 0 = be32At b (at + milligramsPlace) };
+      lot = record { 0 = lotIn (kinds (kindAt b at)) b (at + 1) };
     }
+
+-- and by all kinds
+abbrev pub doseAt : List ℕ → ℕ → Dose
+doseAt b at = doseBy (kindsOf lastEdition) b at
 
 -- 20 | unknown weighed kind
 abbrev pub kindAllowed : (ℕ → Bool) → ℕ → Bool

@@ -4,7 +4,7 @@ use mathlib.Core.Path.{_≡_}
 use mathlib.Core.List.{List, [], _∷_, _++_}
 use mathlib.Core.Bool.{Bool, true, cond}
 use lib.ListN.{length, take, drop}
-use lib.Dec.{leb}
+use lib.Dec.{eqb, leb}
 use Rattle.book.specs.declared.dose.Dose.{Dose}
 use Rattle.book.specs.Doses.{sumOf}
 
@@ -40,15 +40,16 @@ valueFrom high (byte ∷ rest) = valueFrom (high * 256 + byte) rest
 abbrev pub value : List ℕ → ℕ
 value bytes = valueFrom 0 bytes
 
--- oxide 2, milligrams 4: what a weighed record states
+-- oxide 2, milligrams 4, and in kind AA lot 4: what a weighed record states; the lot of any other kind is 0
 abbrev pub stated : BookRecord → Dose
 stated r =
     record {
       oxide = record { 0 = value (take 2 (r .body)) };
       milligrams = record { 0 = value (take 4 (drop 2 (r .body))) };
+      lot = record { 0 = cond (eqb (r .kind) 0xAA) (value (take 4 (drop 6 (r .body)))) 0 };
     }
 
--- kinds 128 and above are weighed; doses are the (oxide, milligrams) of weighed records, in order
+-- kinds 128 and above are weighed; doses are the (oxide, milligrams, lot) of weighed records, in order
 unfoldable pub statedDoses : List BookRecord → List Dose
 statedDoses [] = []
 statedDoses (r ∷ rest) = cond (leb 128 (r .kind)) (stated r ∷ statedDoses rest) (statedDoses rest)

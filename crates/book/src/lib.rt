@@ -10,6 +10,7 @@ ghost use Rattle.book.specs.Doses.{doses, sumOf, weighedAs, weighed};
 pub mod dose;
 
 pub use dose::Dose;
+pub use dose::Lot;
 pub use dose::Milligrams;
 pub use dose::Oxide;
 use format::Verdict;
@@ -53,6 +54,7 @@ fn known(edition: u32, kind: u8) -> bool
         0x86 => 1 <= edition,
         0x14 => 2 <= edition,
         0x98 => 2 <= edition,
+        0xAA => 3 <= edition,
         _ => false,
     }
 }

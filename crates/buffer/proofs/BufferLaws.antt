@@ -1,6 +1,6 @@
--- Stores of a dose in a buffer (two-numbers, of-dose), and a walk that stores a book's doses however they are spelled, for each
+-- Stores of a dose in a buffer (three-numbers, of-dose), and a walk that stores a book's doses however they are spelled, for each
 -- way through it (turn-remark, turn-weighed, done, full). For callers: numbers-room.
-use Prim.Native.Nat.{ℕ, _+_, _-_, _*_, _≤_, _<_}
+use Prim.Native.Nat.{ℕ, suc, _+_, _-_, _*_, _≤_, _<_}
 use mathlib.Core.Path.{_≡_, refl, sym, _∙_}
 use mathlib.Core.List.{List, [], _∷_}
 use mathlib.Core.Bool.{Bool, true, false}
@@ -17,10 +17,13 @@ use Rattle.book.proofs.PlaceLaws.{end-of}
 use Rattle.book.proofs.RecordsLaws.{weighed, remark, no-doses}
 use Rattle.buffer.specs.Buffer.{numbersPerDose, numbersOf}
 
-pub two-numbers : (out : List ℕ) (i : ℕ) (dose : Dose) {o₁ o₂ : List ℕ} → o₁ ≡ set out i (dose .oxide .0)
-    → o₂ ≡ set o₁ (i + 1) (dose .milligrams .0) → o₂ ≡ sets out i (numbersOf (dose ∷ []))
+pub three-numbers : (out : List ℕ) (i : ℕ) (dose : Dose) {o₁ o₂ o₃ : List ℕ} → o₁ ≡ set out i (dose .oxide .0)
+    → o₂ ≡ set o₁ (i + 1) (dose .milligrams .0) → o₃ ≡ set o₂ (i + 2) (dose .lot .0)
+    → o₃ ≡ sets out i (numbersOf (dose ∷ []))
 unfolding numbersOf
-two-numbers out i dose p q = q ∙ rw (p, add-one)
+three-numbers out i dose p q r =
+    let k : i + 2 ≡ suc (suc i) = omega arith in
+    r ∙ rw (q, p, k, add-one)
 
 pub of-dose : (spell : List Dose → List ℕ) (b out : List ℕ) (at i : ℕ) {dose : Dose} {after : List ℕ}
     → dose ≡ doseAt b at → after ≡ sets out i (spell (dose ∷ [])) → after ≡ sets out i (spell (doseAt b at ∷ []))

@@ -21,16 +21,17 @@ fn put(out: &mut [u32], i: usize, n: u32)
     }
 }
 
-// Puts a dose's two numbers from a place of the buffer on, as far as that has them.
+// Puts a dose's three numbers from a place of the buffer on, as far as that has them.
 fn put_dose(out: &mut [u32], i: usize, dose: Dose)
     requires { ⌜ i + numbersPerDose < 2 ^ 64 ⌝ }
     ensures { λ r. ⌜ now (out .exit) ≡ sets (now (out .entry)) i (numbersOf (dose ∷ [])) ⌝ }
 {
     put(out, i, dose.oxide.0 as u32);
     put(out, i + 1, dose.milligrams.0);
+    put(out, i + 2, dose.lot.0);
 }
 
-// Writes a book's doses at the front of a buffer, oxide then milligrams, as far as they fit.
+// Writes a book's doses at the front of a buffer, oxide, milligrams and lot, as far as they fit.
 pub fn write(book: &[u8], out: &mut [u32])
     ensures { λ r. ⌜ now (out .exit) ≡ withDoses (now (book .entry)) (now (out .entry)) ⌝ }
 {

@@ -1,6 +1,7 @@
--- Laws of the catalogue: a line past its end (past), a line of the flat table (past-table, within-table, flat-at,
--- line-in, in-table); what a test of every line says of one (each-line); the rule, from one test over the whole table
--- (lawful-of-test, lawful).
+-- Laws of the catalogue: how many lines a part has (length-signature, length-header) and which (signature-at, header-at); a
+-- line past the end (past), a line of the flat table (past-table, within-table, line-in, in-table); what a test of every line
+-- says of one (every-at, each-line), and a test of rising tags of the first two (rising-parts); the rule, from one test over
+-- the whole table (lawful-of-test, lawful, parts-rise).
 use Prim.Native.Nat.{ℕ, zero, suc, _+_, _-_, _*_, _≤_, _<_}
 use mathlib.Core.Path.{_≡_, refl, sym, ap, _∙_}
 use mathlib.Core.List.{List, [], _∷_, _++_}
@@ -13,14 +14,14 @@ use native.Mathlib.Omega.{arith}
 use borrow.Author.Tests.{eqb-true, leb-true, leb-false, le-leb, lt-leb, ltb-true}
 use Rattle.catalogue.specs.declared.Line.{Line}
 use Rattle.catalogue.specs.Catalogue.{signatureLines, headerLines, catalogue, signatureCount, lineCount}
-use Rattle.catalogue.specs.Catalogue.{lineOf, lineAt, lineWidth, flat, lineFrom, lineIn, isRising, isLawfulType, isLawfulLine, every}
-use Rattle.catalogue.specs.Catalogue.{isLawfulCatalogue, LawfulCatalogue}
+use Rattle.catalogue.specs.Catalogue.{lineOf, lineAt, lineWidth, flat, lineFrom, lineIn, isRising, every}
+use Rattle.catalogue.specs.Catalogue.{isLawfulType, isLawfulLine, isLawfulCatalogue, LawfulCatalogue}
 
-length-signature : length signatureLines ≡ signatureCount
+pub length-signature : length signatureLines ≡ signatureCount
 unfolding signatureLines
 length-signature = refl
 
-length-header : length headerLines ≡ lineCount - signatureCount
+pub length-header : length headerLines ≡ lineCount - signatureCount
 unfolding headerLines
 length-header = refl
 
@@ -109,11 +110,11 @@ pub in-table : (i : ℕ) {table : List ℕ} {r : Line} → table ≡ flat catalo
 in-table i h p = p ∙ ap (λ (numbers : List ℕ). lineIn numbers i) h ∙ line-in i
 
 -- a line of each part
-signature-at : (i : ℕ) → i < signatureCount → lineAt i ≡ lineOf (getD signatureLines i [])
+pub signature-at : (i : ℕ) → i < signatureCount → lineAt i ≡ lineOf (getD signatureLines i [])
 unfolding lineAt catalogue
 signature-at i h = ap lineOf (List·getD-append signatureLines headerLines [] i (rw length-signature h))
 
-header-at : (i : ℕ) → signatureCount ≤ i → lineAt i ≡ lineOf (getD headerLines (i - signatureCount) [])
+pub header-at : (i : ℕ) → signatureCount ≤ i → lineAt i ≡ lineOf (getD headerLines (i - signatureCount) [])
 unfolding lineAt catalogue
 header-at i h =
     let e : i ≡ length signatureLines + (i - signatureCount) = omega (arith, length-signature) in
@@ -121,7 +122,7 @@ header-at i h =
     ∙ ap lineOf (getD-append-add signatureLines headerLines (i - signatureCount) [])
 
 -- what a test over a list says of one line
-every-at : (test : Line → Bool) (rows : List (List ℕ)) → every test rows ≡ true
+pub every-at : (test : Line → Bool) (rows : List (List ℕ)) → every test rows ≡ true
     → (i : ℕ) → i < length rows → test (lineOf (getD rows i [])) ≡ true
 unfolding every
 every-at test [] t i h = absurd (omega arith)
@@ -134,7 +135,7 @@ unfolding lineAt
 each-line test t i h = every-at test catalogue t i (rw length-catalogue h)
 
 -- the first two rise, and so does the rest
-rising-parts : (a b : List ℕ) (rest : List (List ℕ)) → isRising (a ∷ b ∷ rest) ≡ true
+pub rising-parts : (a b : List ℕ) (rest : List (List ℕ)) → isRising (a ∷ b ∷ rest) ≡ true
     → (lineOf a .tag < lineOf b .tag) × (isRising (b ∷ rest) ≡ true)
 unfolding isRising
 rising-parts a b rest t =
@@ -164,19 +165,30 @@ header-rises t i j from l h =
     rw (header-at i from, header-at j (omega arith))
     (rising-at headerLines t (i - signatureCount) (j - signatureCount) (omega arith) (omega (arith, length-header)))
 
+-- the test's parts
+parts : isLawfulCatalogue ≡ true
+    → ((isRising signatureLines ≡ true) × (isRising headerLines ≡ true)) × (every isLawfulLine catalogue ≡ true)
+unfolding isLawfulCatalogue
+parts t =
+    let all = and-eq-true-iff (isRising signatureLines && isRising headerLines) (every isLawfulLine catalogue) .0 t in
+    (and-eq-true-iff (isRising signatureLines) (isRising headerLines) .0 (all .0), all .1)
+
 -- the test says the rule at each line
 pub lawful-of-test : isLawfulCatalogue ≡ true → LawfulCatalogue
-unfolding isLawfulCatalogue
 lawful-of-test t =
-    let all = and-eq-true-iff (isRising signatureLines && isRising headerLines) (every isLawfulLine catalogue) .0 t in
-    let parts = and-eq-true-iff (isRising signatureLines) (isRising headerLines) .0 (all .0) in
     record {
-      signatureRises = signature-rises (parts .0);
-      headerRises = header-rises (parts .1);
-      typesLawful = each-line isLawfulLine (all .1);
+      signatureRises = signature-rises (parts t .0 .0);
+      headerRises = header-rises (parts t .0 .1);
+      typesLawful = each-line isLawfulLine (parts t .1);
     }
 
 -- and it passes
-pub lawful : LawfulCatalogue
+test-passes : isLawfulCatalogue ≡ true
 unfolding isLawfulCatalogue isRising every isLawfulType catalogue signatureLines headerLines
-lawful = lawful-of-test refl
+test-passes = refl
+
+pub lawful : LawfulCatalogue
+lawful = lawful-of-test test-passes
+
+pub parts-rise : (isRising signatureLines ≡ true) × (isRising headerLines ≡ true)
+parts-rise = parts test-passes .0

@@ -1,2 +1,3 @@
 pub mod CatalogueLaws
+pub mod ListLaws
 pub mod LineLaws

@@ -1,22 +1,28 @@
--- Laws of `linesFrom`, one for each way through a turn: turn, ends, spent.
+-- Laws of `linesFrom`, one for each way through a turn: turn, ends, spent. Over a part of the catalogue it finds what `linesOf`
+-- finds in the list of the lines that the edition has: of-signature, of-header.
 use Prim.Native.Nat.{ℕ, suc, _+_, _-_, _≤_, _<_}
 use mathlib.Core.Path.{_≡_, refl, sym, ap, _∙_}
-use mathlib.Core.Bool.{Bool}
+use mathlib.Core.List.{List, [], _∷_}
+use mathlib.Core.Bool.{Bool, true, false, cond}
+use lib.ListN.{length, getD}
 use native.Mathlib.Omega.{arith}
 use Rattle.format.specs.declared.verdict.Verdict.{Verdict}
 use Rattle.format.specs.declared.verdict.Verdict.the-variants.{Pass, Fail}
 use Rattle.format.specs.Verdicts.{both}
 use Rattle.format.proofs.VerdictLaws.{both-pass, both-fail}
 use Rattle.catalogue.specs.declared.Line.{Line}
+use Rattle.catalogue.specs.Catalogue.{signatureLines, headerLines, signatureCount, lineCount, lineOf, lineAt, inEdition}
+use Rattle.catalogue.specs.Lists.{linesHad, signatureOf, headerOf}
+use Rattle.catalogue.proofs.CatalogueLaws.{length-signature, length-header, signature-at, header-at}
 use Rattle.tags.specs.Tags.{Look}
-use Rattle.lines.specs.Lines.{lineIf, linesFrom}
+use Rattle.lines.specs.Lines.{lineCheck, lineIf, linesFrom, linesOf}
 
 module _ (line : ℕ → Line) (hasLine : Line → Bool) (look : Look) where
-  pub none : (i : ℕ) → linesFrom line hasLine look 0 i ≡ Pass
+  none : (i : ℕ) → linesFrom line hasLine look 0 i ≡ Pass
   unfolding linesFrom
   none i = refl
 
-  pub step : (n i : ℕ) → linesFrom line hasLine look (suc n) i
+  step : (n i : ℕ) → linesFrom line hasLine look (suc n) i
       ≡ both (lineIf hasLine look (line i)) (linesFrom line hasLine look n (i + 1))
   unfolding linesFrom
   step n i = refl
@@ -42,3 +48,37 @@ module _ (line : ℕ → Line) (hasLine : Line → Bool) (look : Look) where
     pub spent : to ≤ i → Pass ≡ v
     unfolding linesFrom
     spent l = let k : to - i ≡ 0 = omega arith in sym (rw k at inv)
+
+-- a table that has the lines of these rows from number i on
+abbrev Has : (ℕ → Line) → List (List ℕ) → ℕ → Type 0
+Has line rows i = (n k : ℕ) → n ≡ i + k → k < length rows → line n ≡ lineOf (getD rows k [])
+
+module _ (edition : ℕ) (look : Look) where
+  as-list : (line : ℕ → Line) (rows : List (List ℕ)) (i : ℕ) → Has line rows i
+      → linesFrom line (inEdition edition) look (length rows) i ≡ linesOf look (linesHad edition rows)
+  unfolding linesOf linesHad
+  as-list line [] i f = none line (inEdition edition) look i
+  as-list line (a ∷ rest) i f =
+      let behind = as-list line rest (i + 1) (λ n k e h. f n (suc k) (omega arith) (omega arith)) in
+      step line (inEdition edition) look (length rest) i
+      ∙ rw (f i 0 (omega arith) (omega arith)) (go (inEdition edition (lineOf a)) behind)
+    where
+      go : (b : Bool) → linesFrom line (inEdition edition) look (length rest) (i + 1) ≡ linesOf look (linesHad edition rest)
+          → both (cond b (lineCheck look (lineOf a)) Pass) (linesFrom line (inEdition edition) look (length rest) (i + 1))
+          ≡ linesOf look (cond b (lineOf a ∷ linesHad edition rest) (linesHad edition rest))
+      go true h = ap (both (lineCheck look (lineOf a))) h
+      go false h = both-pass refl ∙ h
+
+  pub of-signature : {r : Verdict} → r ≡ linesFrom lineAt (inEdition edition) look (signatureCount - 0) 0
+      → r ≡ linesOf look (signatureOf edition)
+  of-signature p = p ∙ (rw length-signature at (as-list lineAt signatureLines 0 has))
+    where
+      has : Has lineAt signatureLines 0
+      has n k e h = let m : n ≡ k = omega arith in rw m (signature-at k (omega (arith, length-signature)))
+
+  pub of-header : {r : Verdict} → r ≡ linesFrom lineAt (inEdition edition) look (lineCount - signatureCount) signatureCount
+      → r ≡ linesOf look (headerOf edition)
+  of-header p = p ∙ (rw length-header at (as-list lineAt headerLines signatureCount has))
+    where
+      has : Has lineAt headerLines signatureCount
+      has n k e h = let m : n - signatureCount ≡ k = omega arith in rw m at (header-at n (omega arith))

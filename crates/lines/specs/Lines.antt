@@ -1,6 +1,7 @@
 -- Document 01, "Catalogue", checks 14 and 15: per line in tag order, signature first, 14 before 15 on each line. A structure
 -- is what it shows for each tag.
-use Prim.Native.Nat.{ℕ, zero, suc, _+_, _-_}
+use Prim.Native.Nat.{ℕ, zero, suc, _+_}
+use mathlib.Core.List.{List, [], _∷_}
 use mathlib.Core.Bool.{Bool, cond, not}
 use Rattle.format.specs.declared.verdict.Verdict.{Verdict}
 use Rattle.format.specs.declared.verdict.Verdict.the-variants.{Pass}
@@ -8,7 +9,7 @@ use Rattle.format.specs.Verdicts.{check, both}
 use Rattle.index.specs.declared.Tagged.{Tagged}
 use Rattle.index.specs.declared.Tagged.the-variants.{Present, Absent}
 use Rattle.catalogue.specs.declared.Line.{Line}
-use Rattle.catalogue.specs.Catalogue.{isRequired, isAsLine, lineAt, signatureCount, lineCount}
+use Rattle.catalogue.specs.Catalogue.{isRequired, isAsLine}
 use Rattle.tags.specs.Tags.{Look}
 
 -- 14 | required tag absent | tag
@@ -30,8 +31,11 @@ linesFrom line hasLine look zero i = Pass
 linesFrom line hasLine look (suc n) i =
     both (lineIf hasLine look (line i)) (linesFrom line hasLine look n (i + 1))
 
+-- 14 and 15 for a list of lines, in its order
+unfoldable pub linesOf : Look → List Line → Verdict
+linesOf look [] = Pass
+linesOf look (line ∷ rest) = both (lineCheck look line) (linesOf look rest)
+
 -- the signature's lines, then the header's
-unfoldable pub linesCheck : (Line → Bool) → Look → Look → Verdict
-linesCheck hasLine signature header =
-    both (linesFrom lineAt hasLine signature signatureCount 0)
-    (linesFrom lineAt hasLine header (lineCount - signatureCount) signatureCount)
+unfoldable pub linesCheck : List Line → List Line → Look → Look → Verdict
+linesCheck ofSignature ofHeader signature header = both (linesOf signature ofSignature) (linesOf header ofHeader)

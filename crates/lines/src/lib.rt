@@ -1,7 +1,8 @@
 // The lines of the catalogue: checks 14 and 15.
 ghost use mathlib.Core.Path.{_≡_};
-ghost use Prim.Native.Nat.{ℕ, _-_};
+ghost use Prim.Native.Nat.{_-_};
 ghost use Rattle.catalogue.specs.Catalogue.{catalogue, flat, inEdition, lineAt};
+ghost use Rattle.catalogue.specs.Lists.{signatureOf, headerOf};
 ghost use Rattle.tags.specs.Tables.{shownBy};
 ghost use Rattle.lines.specs.Lines.{lineCheck, lineIf, linesFrom, linesCheck};
 use catalogue::Line;
@@ -72,7 +73,8 @@ pub fn check(
     signature: &[u32; Table::NUMBERS],
     header: &[u32; Table::NUMBERS],
 ) -> Verdict
-    ensures { λ r. ⌜ r ≡ linesCheck (inEdition edition) (shownBy (now (signature .entry))) (shownBy (now (header .entry))) ⌝ }
+    ensures { λ r. ⌜ r ≡ linesCheck (signatureOf edition) (headerOf edition)
+        (shownBy (now (signature .entry))) (shownBy (now (header .entry))) ⌝ }
 {
     let table = catalogue::table();
     let v = lines_from(edition, &table, signature, 0, Line::SIGNATURE);

@@ -1,5 +1,5 @@
--- A dose's bytes are those that its record's body begins with: the digits of a number that is made of bytes
--- (oxide-bytes, milligrams-bytes), and their stores (copied).
+-- The bytes of oxide and milligrams are those that a record's body begins with: the digits of a number that is made of bytes
+-- (oxide-bytes, milligrams-bytes), and the stores of a dose (copied).
 use Prim.Native.Nat.{ℕ, _+_, _*_, _/_, _%_, _<_}
 use mathlib.Core.Path.{_≡_, ap, _∙_}
 use mathlib.Core.List.{List, [], _∷_}
@@ -7,10 +7,12 @@ use lib.ListN.{getD}
 use lib.Seq.{sets}
 use native.Mathlib.Omega.{arith}
 use Rattle.put.specs.Puts.{bytesOf}
+use Rattle.book.specs.declared.dose.Lot.{Lot}
 use Rattle.book.specs.Book.{doseAt}
 use Rattle.book.proofs.DoseLaws.{oxide-joined, milligrams-joined}
 use Rattle.buffer.specs.Buffer.{numbersOf}
 use Rattle.octets.specs.Octets.{numberBytes}
+use Rattle.octets.proofs.OctetLaws.{lot-last}
 
 oxide-bytes : (a b : ℕ) → a < 256 → b < 256 → bytesOf (a * 256 + b) ≡ 0 ∷ 0 ∷ a ∷ b ∷ []
 unfolding bytesOf
@@ -32,12 +34,12 @@ milligrams-bytes a b c d p q r s =
     let k₄ : n % 256 ≡ d = omega arith in
     rw (k₁, k₂, k₃, k₄)
 
-pub copied : (b : List ℕ) → ((k : ℕ) → getD b k 0 < 256) → (out : List ℕ) (at i : ℕ) {o : List ℕ}
-    → o ≡ sets out i (0 ∷ 0 ∷ getD b (at + 1) 0 ∷ getD b (at + 2) 0 ∷ getD b (at + 3) 0 ∷ getD b (at + 4) 0
+pub copied : (b : List ℕ) → ((k : ℕ) → getD b k 0 < 256) → (out : List ℕ) (at i : ℕ) {o₁ o₂ : List ℕ} {lot : Lot}
+    → o₁ ≡ sets out i (0 ∷ 0 ∷ getD b (at + 1) 0 ∷ getD b (at + 2) 0 ∷ getD b (at + 3) 0 ∷ getD b (at + 4) 0
     ∷ getD b (at + 5) 0 ∷ getD b (at + 6) 0 ∷ [])
-    → o ≡ sets out i (numberBytes (numbersOf (doseAt b at ∷ [])))
-unfolding numbersOf numberBytes
-copied b byte out at i p = p ∙ rw (oxide, milligrams)
+    → lot ≡ doseAt b at .lot → o₂ ≡ sets o₁ (i + 8) (bytesOf (lot .0))
+    → o₂ ≡ sets out i (numberBytes (numbersOf (doseAt b at ∷ [])))
+copied b byte out at i {o₁} p e q = lot-last out i (doseAt b at) {o₁ = o₁} (p ∙ rw (oxide, milligrams)) (q ∙ rw e)
   where
     oxide : bytesOf (doseAt b at .oxide .0) ≡ 0 ∷ 0 ∷ getD b (at + 1) 0 ∷ getD b (at + 2) 0 ∷ []
     oxide =

@@ -14,9 +14,13 @@ use book::is_weighed;
 // How many bytes a number takes in a buffer of bytes.
 pub const NUMBER_BYTES: usize = 4;
 
-// Puts the eight bytes of the dose at a place of a book, which has them, from a place of the buffer on, as far as that has
-// them: two zero bytes, and the six that the body of its record begins with.
+// Where a lot stands among the bytes of a dose.
+const LOT: usize = 8;
+
+// Puts the twelve bytes of the dose at a place of a book, which has its oxide and its milligrams, from a place of the buffer
+// on, as far as that has them: two zero bytes, the six that the body of its record begins with, and the lot.
 fn put_body(out: &mut [u8], i: usize, book: &[u8], at: usize)
+    requires { ⌜ i + bytesPerDose < 2 ^ 64 ⌝ }
     requires { ⌜ at + 7 ≤ length (now book) ⌝ }
     ensures { λ r. ⌜ now (out .exit)
         ≡ sets (now (out .entry)) i (numberBytes (numbersOf (doseAt (now (book .entry)) at ∷ []))) ⌝ }
@@ -33,9 +37,10 @@ fn put_body(out: &mut [u8], i: usize, book: &[u8], at: usize)
         book[at + 5],
         book[at + 6],
     );
+    put::number(out, i + LOT, Dose::lot_at(book, at).0);
 }
 
-// Puts the eight bytes of the dose at a place of a book from a place of the buffer on, as far as that has them.
+// Puts the twelve bytes of the dose at a place of a book from a place of the buffer on, as far as that has them.
 fn put_dose_bytes(out: &mut [u8], i: usize, book: &[u8], at: usize)
     requires { ⌜ i + bytesPerDose < 2 ^ 64 ⌝ }
     ensures { λ r. ⌜ now (out .exit)
@@ -51,6 +56,7 @@ fn put_dose_bytes(out: &mut [u8], i: usize, book: &[u8], at: usize)
     let dose = Dose::at(book, at);
     put::number(out, i, dose.oxide.0 as u32);
     put::number(out, i + NUMBER_BYTES, dose.milligrams.0);
+    put::number(out, i + LOT, dose.lot.0);
 }
 
 // Writes a book's doses at the front of a buffer of bytes, four to a number, big-endian, as far as they fit.

@@ -1,10 +1,10 @@
 -- Checks 14 to 24, and 27, for each way through the functions that run them.
 use Prim.Native.Nat.{ℕ, _*_, _≤_, _<_}
-use mathlib.Core.Path.{_≡_, sym, ap, _∙_}
-use mathlib.Core.List.{List, []}
-use mathlib.Core.Bool.{Bool, true, false, not}
+use mathlib.Core.Path.{_≡_, refl, sym, ap, _∙_}
+use mathlib.Core.List.{List, [], _∷_}
+use mathlib.Core.Bool.{Bool, true, false, cond, not, _||_, or-false}
 use lib.ListN.{length}
-use lib.Dec.{leb}
+use lib.Dec.{eqb, leb}
 use mir.Syntax.{w32}
 use mir.Val.{Fits}
 use native.Mathlib.Omega.{arith}
@@ -16,7 +16,8 @@ use Rattle.format.specs.declared.verdict.Verdict.the-variants.{Pass, Fail}
 use Rattle.format.specs.Verdicts.{check, both}
 use Rattle.format.proofs.VerdictLaws.{both-pass, both-fail}
 use Rattle.catalogue.specs.declared.Line.{Line}
-use Rattle.catalogue.specs.Catalogue.{inEdition, lineAt}
+use Rattle.catalogue.specs.Catalogue.{signatureLines, headerLines, catalogue, lineOf, lineAt, inEdition}
+use Rattle.catalogue.specs.Lists.{linesHad}
 use Rattle.catalogue.specs.Words.{int32}
 use Rattle.lookups.specs.Within.{bytesIn}
 use Rattle.package.specs.declared.Opened.{Opened}
@@ -30,7 +31,7 @@ use Rattle.book.proofs.PassLaws.{weighed-doses, weighed-unsound, few-doses}
 use Rattle.buffer.specs.Buffer.{numbersPerDose}
 use Rattle.reading.specs.declared.opened.Weighing.{Weighing}
 use Rattle.reading.specs.declared.opened.Weighing.the-variants.{Doses, Refused}
-use Rattle.reading.specs.Editions.{editionOf, batchTag, batchLine}
+use Rattle.reading.specs.Editions.{hasLine, editionOf, batchTag, hasBatch}
 use Rattle.reading.specs.Reading.{bookIn, weightIn, sumCheck, roomCheck, bookPart, openedCheck}
 use Rattle.reading.specs.Weighings.{openedBook, weighingAs}
 
@@ -47,24 +48,48 @@ pub weight-at : (s : List ℕ) (header : Section) {l : List ℕ} {n : ℕ} → l
     → n ≡ be32At l 0 → n ≡ weightIn s header
 weight-at s header p q = q ∙ ap (λ (l : List ℕ). be32At l 0) p
 
+-- a tag has a line in an edition where a row of it has the tag and is the edition's
+had-row : (edition tag : ℕ) (a : List ℕ) (rest : List (List ℕ))
+    → hasLine tag (linesHad edition (a ∷ rest))
+    ≡ (cond (eqb (lineOf a .tag) tag) (inEdition edition (lineOf a)) false || hasLine tag (linesHad edition rest))
+unfolding hasLine linesHad
+had-row edition tag a rest = go (inEdition edition (lineOf a)) (eqb (lineOf a .tag) tag) refl
+  where
+    go : (h t : Bool) → eqb (lineOf a .tag) tag ≡ t
+        → hasLine tag (cond h (lineOf a ∷ linesHad edition rest) (linesHad edition rest))
+        ≡ (cond (eqb (lineOf a .tag) tag) h false || hasLine tag (linesHad edition rest))
+    go true true e = rw e
+    go true false e = rw e
+    go false true e = rw e
+    go false false e = rw e
+
+no-row : (edition tag : ℕ) → hasLine tag (linesHad edition []) ≡ false
+unfolding hasLine linesHad
+no-row edition tag = refl
+
+-- 20002 has a line in the editions that have line 81 of the catalogue
+batch-line : (edition : ℕ) → inEdition edition (lineAt 81) ≡ hasBatch (editionOf edition)
+unfolding lineAt catalogue signatureLines headerLines
+batch-line edition = sym (simp (had-row edition batchTag, no-row edition batchTag, or-false))
+
 -- check 23, by whether the edition has the batch weight's line: b is the answer for the line that was read
-module _ (edition : ℕ) (s : List ℕ) (header : Section) (sum : ℕ) {line : Line} (p : line ≡ lineAt batchLine) {b : Bool}
+module _ (edition : ℕ) (s : List ℕ) (header : Section) (sum : ℕ) {line : Line} (p : line ≡ lineAt 81) {b : Bool}
     (q : b ≡ inEdition edition line) where
+  has-batch : b ≡ hasBatch (editionOf edition)
+  has-batch = q ∙ ap (inEdition edition) p ∙ batch-line edition
+
   pub no-batch : not b ≡ true → Pass ≡ sumCheck (editionOf edition) s header sum
   unfolding sumCheck
-  no-batch h = rw (sym (q ∙ ap (inEdition edition) p) ∙ not-true b h)
+  no-batch h = rw (sym has-batch ∙ not-true b h)
 
   module _ (h : not b ≡ false) {n : ℕ} (k : n ≡ weightIn s header) where
-    has-batch : inEdition edition (lineAt batchLine) ≡ true
-    has-batch = sym (q ∙ ap (inEdition edition) p) ∙ not-false b h
-
     pub batch-right : n ≡ sum → Pass ≡ sumCheck (editionOf edition) s header sum
     unfolding sumCheck check
-    batch-right e = rw (has-batch, eq-eqb (weightIn s header) sum (sym k ∙ e))
+    batch-right e = rw (sym has-batch ∙ not-false b h, eq-eqb (weightIn s header) sum (sym k ∙ e))
 
     pub batch-wrong : (n ≡ sum → ⊥) → Fail 23 batchTag ≡ sumCheck (editionOf edition) s header sum
     unfolding sumCheck check
-    batch-wrong e = rw (has-batch, ne-eqb (weightIn s header) sum (λ j. e (k ∙ j)))
+    batch-wrong e = rw (sym has-batch ∙ not-false b h, ne-eqb (weightIn s header) sum (λ j. e (k ∙ j)))
 
 -- checks 19 to 24, by what weighing the book found
 module _ (edition : ℕ) (s : List ℕ) (header : Section) (room : ℕ) (b : List ℕ) {w : Weighed} (p : w ≡ weighed edition b) where
@@ -105,7 +130,7 @@ module _ (edition : ℕ) (s : List ℕ) (header : Section) (room : ℕ) (b : Lis
 
 -- checks 14 to 18 first, then 27
 module _ (edition : ℕ) (s : List ℕ) (signature header : Section) (room : ℕ) (b : List ℕ) {v : Verdict}
-    (p : v ≡ rulesCheck (inEdition edition) s (length s) signature header) where
+    (p : v ≡ rulesCheck (editionOf edition .signature) (editionOf edition .header) s (length s) signature header) where
   pub rules-refused : {number place : ℕ} → v ≡ Fail number place
       → Refused number place ≡ weighingAs (openedCheck (editionOf edition) s signature header room b) (length (doses b))
   unfolding openedCheck

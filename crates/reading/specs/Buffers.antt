@@ -3,12 +3,15 @@ use Prim.Native.Nat.{ℕ, _/_}
 use mathlib.Core.Path.{_≡_}
 use mathlib.Core.List.{List}
 use lib.ListN.{length}
+use lib.Seq.{sets}
 use Rattle.format.specs.declared.verdict.Verdict.{Verdict}
 use Rattle.format.specs.declared.verdict.Verdict.the-variants.{Pass, Fail}
 use Rattle.format.specs.declared.verdict.Answer.{Answer}
-use Rattle.buffer.specs.Buffer.{withDoses}
+use Rattle.book.specs.Doses.{dosesIn}
+use Rattle.buffer.specs.Buffer.{numbersOf, withDoses}
 use Rattle.octets.specs.Octets.{numberBytes, withDoseBytes}
-use Rattle.reading.specs.Reading.{bookOf, readingCheck, readAnswer}
+use Rattle.reading.specs.Editions.{Edition}
+use Rattle.reading.specs.Reading.{bookOf, checksAt, readingCheck, readAnswer}
 
 -- a refused reading changes nothing; an accepted one puts its doses at the front
 abbrev pub afterAs : Verdict → List ℕ → List ℕ → List ℕ
@@ -35,7 +38,12 @@ abbrev pub put : Form → List ℕ → List ℕ → List ℕ
 put Numbers book before = withDoses book before
 put Bytes book before = withDoseBytes book before
 
--- what a reading leaves in a buffer
+-- what a reading leaves in a buffer: at any edition, and at one by its number
+unfoldable pub leftAt : Form → Edition → List ℕ → List ℕ → List ℕ
+leftAt form edition s before =
+    afterAs (checksAt edition s (roomIn form before)) before
+    (sets before 0 (cells form (numbersOf (dosesIn (edition .kinds) (bookOf s)))))
+
 unfoldable pub leftIn : Form → ℕ → List ℕ → List ℕ → List ℕ
 leftIn form edition s before =
     afterAs (readingCheck edition s (roomIn form before)) before (put form (bookOf s) before)

@@ -1,5 +1,5 @@
 -- Document 01, "Numbers the station shows": the reading, checks 1 to 24 in order, with 27 between 18 and 19 (request 3)
--- and 28 between the two structures (request 5).
+-- and 28 between the two structures (request 5), for any edition (request 7).
 use Prim.Native.Nat.{ℕ, _*_}
 use mathlib.Core.List.{List}
 use mathlib.Core.Bool.{cond}
@@ -17,16 +17,17 @@ use Rattle.lookups.specs.Within.{bytesIn}
 use Rattle.catalogue.specs.Words.{int32, bin}
 use Rattle.rules.specs.Rules.{rulesCheck}
 use Rattle.verify.specs.Digests.{digestCheck}
+use Rattle.book.specs.Kinds.{knows, lastEdition}
 use Rattle.book.specs.Book.{bookTag, bookCheck}
-use Rattle.book.specs.Doses.{doses, sumOf}
+use Rattle.book.specs.Doses.{dosesIn, doses, sumOf}
 use Rattle.buffer.specs.Buffer.{numbersPerDose}
 use Rattle.reading.specs.Editions.{Edition, editionOf, hasBatch, batchTag}
 
--- 1 | edition not 1 or 2 | 0
+-- 1 | edition not 1 to 3 | 0
 unfoldable pub editionCheck : ℕ → Verdict
 editionCheck edition =
     check (leb 1 edition) 1 0
-    (check (leb edition 2) 1 0
+    (check (leb edition lastEdition) 1 0
     Pass)
 
 -- the book: what a look-up in the header shows for 20001, bin
@@ -40,27 +41,27 @@ bookOf s = bookIn s (headerAt s)
 abbrev pub weightIn : List ℕ → Section → ℕ
 weightIn s header = be32At (bytesIn s header batchTag int32) 0
 
--- 23 | sum isn't 20002's (edition 2) | 20002
+-- 23 | sum isn't 20002's (where that has a line) | 20002
 unfoldable pub sumCheck : Edition → List ℕ → Section → ℕ → Verdict
 sumCheck edition s header sum =
     cond (hasBatch edition) (check (eqb (weightIn s header) sum) 23 batchTag Pass) Pass
 
--- 24 | dose buffer under 2 numbers per dose | numbers needed
+-- 24 | dose buffer under 3 numbers per dose | numbers needed
 abbrev pub needed : List ℕ → ℕ
 needed book = numbersPerDose * length (doses book)
 
 unfoldable pub roomCheck : ℕ → List ℕ → Verdict
 roomCheck room book = check (leb (needed book) room) 24 (needed book) Pass
 
--- 19 to 24 for a book
+-- 19 to 24 for a book; the number of its doses and their sum are the same by any kinds
 unfoldable pub bookPart : Edition → List ℕ → Section → ℕ → List ℕ → Verdict
 bookPart edition s header room book =
-    both (bookCheck (edition .known) book) (both (sumCheck edition s header (sumOf (doses book))) (roomCheck room book))
+    both (bookCheck (knows (edition .kinds)) book) (both (sumCheck edition s header (sumOf (doses book))) (roomCheck room book))
 
 -- 14 to 18, 27 and 19 to 24 for a package's two structures and a book
 unfoldable pub openedCheck : Edition → List ℕ → Section → Section → ℕ → List ℕ → Verdict
 openedCheck edition s signature header room book =
-    both (rulesCheck (edition .hasLine) s (length s) signature header)
+    both (rulesCheck (edition .signature) (edition .header) s (length s) signature header)
     (both (digestCheck s signature header) (bookPart edition s header room book))
 
 -- 2 to 24, 27 and 28, at an edition
@@ -75,6 +76,10 @@ readingCheck edition s room = both (editionCheck edition) (checksAt (editionOf e
 abbrev pub answerAs : Verdict → ℕ → Answer
 answerAs Pass count = Done count
 answerAs (Fail number place) count = Refused number place
+
+-- the answer at an edition: any, and one by its number
+abbrev pub answerAt : Edition → List ℕ → ℕ → Answer
+answerAt edition s room = answerAs (checksAt edition s room) (length (dosesIn (edition .kinds) (bookOf s)))
 
 abbrev pub readAnswer : ℕ → List ℕ → ℕ → Answer
 readAnswer edition s room = answerAs (readingCheck edition s room) (length (doses (bookOf s)))

@@ -13,6 +13,9 @@ use format::Verdict;
 use opened::Weighing;
 use package::Opened;
 
+// The last edition.
+pub const LAST: u32 = 3;
+
 // Check 1.
 fn edition_check(edition: u32) -> Verdict
     ensures { λ r. ⌜ r ≡ editionCheck edition ⌝ }
@@ -20,7 +23,7 @@ fn edition_check(edition: u32) -> Verdict
     if edition < 1 {
         return Verdict::Fail(1, 0);
     }
-    if 2 < edition {
+    if LAST < edition {
         return Verdict::Fail(1, 0);
     }
     Verdict::Pass
@@ -51,8 +54,8 @@ fn decide(edition: u32, pkg: &[u8], found: Opened, bytes: &[u8], room: usize) ->
     }
 }
 
-// Reads a package at an edition. Success is 0 with the dose count; the doses stand at the front of the buffer, oxide then
-// milligrams, and nothing behind them changes. A refusal is the first failing check of 1 to 13 with 28, 14 to 18, 27 and 19
+// Reads a package at an edition. Success is 0 with the dose count; the doses stand at the front of the buffer, oxide,
+// milligrams and lot, and nothing behind them changes. A refusal is the first failing check of 1 to 13 with 28, 14 to 18, 27 and 19
 // to 24, and changes nothing.
 pub fn read(edition: u32, pkg: &[u8], doses: &mut [u32]) -> Answer
     ensures { λ r. ⌜ Read edition (now (pkg .entry)) (now (doses .entry)) r (now (doses .exit)) ⌝ }

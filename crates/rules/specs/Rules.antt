@@ -2,7 +2,6 @@
 -- the header's index how many strings are translated.
 use Prim.Native.Nat.{ℕ, _-_}
 use mathlib.Core.List.{List}
-use mathlib.Core.Bool.{Bool}
 use lib.Dec.{eqb}
 use Rattle.format.specs.declared.section.Section.{Section}
 use Rattle.format.specs.declared.verdict.Verdict.{Verdict}
@@ -20,15 +19,15 @@ unfoldable pub sizeTagCheck : List ℕ → ℕ → Section → Section → Look 
 sizeTagCheck s len signature header look =
     check (eqb (numberIn s signature look 1000) (len - header .start .0)) 16 1000 Pass
 
--- 14 to 18, by what signature and header show
-unfoldable pub rulesOver : (Line → Bool) → List ℕ → ℕ → Section → Section → Look → Look → Verdict
-rulesOver hasLine s len signature header inSignature inHeader =
-    both (linesCheck hasLine inSignature inHeader)
+-- 14 to 18 with the lines of signature and header, by what the two show
+unfoldable pub rulesOver : List Line → List Line → List ℕ → ℕ → Section → Section → Look → Look → Verdict
+rulesOver ofSignature ofHeader s len signature header inSignature inHeader =
+    both (linesCheck ofSignature ofHeader inSignature inHeader)
     (both (sizeTagCheck s len signature header inSignature)
     (both (groupsCheck s header inSignature inHeader)
     (textsCheck s header inHeader)))
 
 -- 14 to 18, by the records of the two indexes
-abbrev pub rulesCheck : (Line → Bool) → List ℕ → ℕ → Section → Section → Verdict
-rulesCheck hasLine s len signature header =
-    rulesOver hasLine s len signature header (taggedIn s signature) (taggedIn s header)
+abbrev pub rulesCheck : List Line → List Line → List ℕ → ℕ → Section → Section → Verdict
+rulesCheck ofSignature ofHeader s len signature header =
+    rulesOver ofSignature ofHeader s len signature header (taggedIn s signature) (taggedIn s header)

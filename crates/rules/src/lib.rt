@@ -1,7 +1,7 @@
 // The size tag: check 16, and 14 to 18 in order.
 ghost use mathlib.Core.Path.{_≡_};
 ghost use Prim.Native.Nat.{_-_};
-ghost use Rattle.catalogue.specs.Catalogue.{inEdition};
+ghost use Rattle.catalogue.specs.Lists.{signatureOf, headerOf};
 ghost use Rattle.tags.specs.Tables.{shownBy};
 ghost use Rattle.rules.specs.Rules.{sizeTagCheck, rulesOver, rulesCheck};
 use format::Section;
@@ -42,7 +42,7 @@ fn check_gathered(
     first: &[u32; Table::NUMBERS],
     second: &[u32; Table::NUMBERS],
 ) -> Verdict
-    ensures { λ r. ⌜ r ≡ rulesOver (inEdition edition) (now (pkg .entry)) len signature header
+    ensures { λ r. ⌜ r ≡ rulesOver (signatureOf edition) (headerOf edition) (now (pkg .entry)) len signature header
         (shownBy (now (first .entry))) (shownBy (now (second .entry))) ⌝ }
 {
     let v = lines::check(edition, first, second);
@@ -62,7 +62,7 @@ fn check_gathered(
 
 // Checks 14 to 18 at an edition, in a package of `len` bytes.
 pub fn check(edition: u32, pkg: &[u8], len: u32, signature: Section, header: Section) -> Verdict
-    ensures { λ r. ⌜ r ≡ rulesCheck (inEdition edition) (now (pkg .entry)) len signature header ⌝ }
+    ensures { λ r. ⌜ r ≡ rulesCheck (signatureOf edition) (headerOf edition) (now (pkg .entry)) len signature header ⌝ }
 {
     let mut first = [0u32; Table::NUMBERS];
     gather(&mut first, pkg, signature);

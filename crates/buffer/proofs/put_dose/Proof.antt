@@ -1,4 +1,4 @@
--- The two stores, one behind the other.
+-- The three stores, one behind the other.
 -- Assumes nothing.
 use Rattle.buffer.proofs.BufferLaws as laws
 use borrow.Author.Needs.{needs}
@@ -17,12 +17,18 @@ add-put c = search needs
 put-requires-2 : tie.Need-put-requires-2
 put-requires-2 c κs = search needs
 
+add-put-2 : tie.Need-add-put-2
+add-put-2 c = search needs
+
+put-requires-3 : tie.Need-put-requires-3
+put-requires-3 c κs = search needs
+
 same-length : tie.Need-same-length
 same-length c = search needs
 
 returns : tie.Need-returns
-returns c = search laws.two-numbers
+returns c = search laws.three-numbers
 
 pub put-dose-spec : {M : Type 1} → statement M
 put-dose-spec =
-    tie.close (tie.spec cast-put put-requires add-put put-requires-2 same-length returns)
+    tie.close (tie.spec cast-put put-requires add-put put-requires-2 add-put-2 put-requires-3 same-length returns)

@@ -1,7 +1,8 @@
--- Part by part, in order. Assumes nothing.
+-- Part by part, in order; each part as the list of the edition's lines. Assumes nothing.
 use borrow.Author.Needs.{needs}
 use Rattle.format.proofs.VerdictLaws.{went, halted}
 use Rattle.lines.specs.Lines.{linesCheck}
+use Rattle.lines.proofs.LinesLaws.{of-signature, of-header}
 use Rattle.lines.proofs.check.Statement.{statement}
 use Rattle.lines.proofs.check.Tie as tie
 
@@ -16,7 +17,7 @@ enum-known-v c = search needs
 
 returns : tie.Need-returns
 unfolding linesCheck
-returns c = search (went, halted) depth 12
+returns c = search (halted, of-signature) depth 12
 
 enum-told : tie.Need-enum-told
 enum-told c = search needs
@@ -26,7 +27,7 @@ lines-from-requires-2 c κs = search needs
 
 returns-2 : tie.Need-returns-2
 unfolding linesCheck
-returns-2 c = search (went, halted) depth 12
+returns-2 c = search (went, of-signature, of-header) depth 12
 
 pub check-spec : {M : Type 1} → statement M
 check-spec =

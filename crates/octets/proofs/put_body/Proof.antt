@@ -1,4 +1,4 @@
--- The bytes of both numbers are the body's. Assumes nothing.
+-- The bytes of oxide and milligrams are the body's, and those of the lot come behind them. Assumes nothing.
 use native.Mathlib.Omega.{arith}
 use Rattle.octets.proofs.BodyLaws as laws
 use borrow.Author.Needs.{needs}
@@ -44,12 +44,21 @@ shared-slice-read-eight-6 c = search needs
 eight-requires : tie.Need-eight-requires
 eight-requires c κs = search needs
 
+add-number : tie.Need-add-number
+add-number c = search needs
+
+lot-at-requires : tie.Need-lot-at-requires
+lot-at-requires c κs = search needs
+
+number-requires : tie.Need-number-requires
+number-requires c κs = search needs
+
 same-length : tie.Need-same-length
 same-length c = search needs
 
 returns : tie.Need-returns
 returns c =
-    let known = c .before .before .before .before .before .before .before .before .before .before in
+    let known = c .before .before .before .before .before .before .before .before .before .before .before .before .before .before .before in
     let args = known .before .before .args in
     search (laws.copied (args .book .now) (λ k. omega (arith, known .shared-slice-known .given k)))
 
@@ -70,5 +79,8 @@ put-body-spec =
     add-eight-6
     shared-slice-read-eight-6
     eight-requires
+    add-number
+    lot-at-requires
+    number-requires
     same-length
     returns)

@@ -1,4 +1,4 @@
--- From the body where the book has it whole; else the two numbers, one behind the other. Assumes nothing.
+-- From the body where the book has it so far; else the three numbers, one behind the other. Assumes nothing.
 use mathlib.Core.List.{List}
 use Rattle.book.specs.declared.dose.Dose.{Dose}
 use Rattle.buffer.specs.Buffer.{numbersOf}
@@ -33,11 +33,17 @@ add-number c = search needs
 number-requires-2 : tie.Need-number-requires-2
 number-requires-2 c κs = search needs
 
+add-number-2 : tie.Need-add-number-2
+add-number-2 c = search needs
+
+number-requires-3 : tie.Need-number-requires-3
+number-requires-3 c κs = search needs
+
 same-length-2 : tie.Need-same-length-2
 same-length-2 c = search needs
 
 returns-2 : tie.Need-returns-2
-returns-2 c = search (laws.eight-bytes, stores.of-dose (λ (ds : List Dose). numberBytes (numbersOf ds)))
+returns-2 c = search (laws.twelve-bytes, stores.of-dose (λ (ds : List Dose). numberBytes (numbersOf ds)))
 
 pub put-dose-bytes-spec : {M : Type 1} → statement M
 put-dose-bytes-spec =
@@ -51,5 +57,7 @@ put-dose-bytes-spec =
     number-requires
     add-number
     number-requires-2
+    add-number-2
+    number-requires-3
     same-length-2
     returns-2)

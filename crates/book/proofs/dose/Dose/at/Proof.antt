@@ -1,4 +1,4 @@
--- Where the book has it whole it is read at once; past the end both numbers are 0. Assumes nothing.
+-- Where the book has it whole it is read at once; past the end all numbers are 0. Assumes nothing.
 use Rattle.book.proofs.DoseLaws as laws
 use borrow.Author.Needs.{needs}
 use Rattle.book.proofs.dose.Dose.at.Statement.{statement}
@@ -30,6 +30,9 @@ add-be32 c = search needs
 be32-requires : tie.Need-be32-requires
 be32-requires c κs = search needs
 
+lot-at-requires : tie.Need-lot-at-requires
+lot-at-requires c κs = search needs
+
 returns-3 : tie.Need-returns-3
 returns-3 c = search laws.read
 
@@ -44,4 +47,5 @@ at-spec =
     be16-requires
     add-be32
     be32-requires
+    lot-at-requires
     returns-3)

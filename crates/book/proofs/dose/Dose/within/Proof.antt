@@ -1,4 +1,4 @@
--- The book's bytes are joined to the two numbers. Assumes nothing.
+-- The book's bytes are joined to the two numbers; the lot comes with its kind. Assumes nothing.
 use Rattle.be.specs.Numbers.{be16At, be32At}
 use Rattle.book.proofs.DoseLaws as laws
 use borrow.Author.Needs.{needs}
@@ -51,6 +51,9 @@ shared-slice-read-join32-4 c = search needs
 join32-requires : tie.Need-join32-requires
 join32-requires c κs = search needs
 
+lot-at-requires : tie.Need-lot-at-requires
+lot-at-requires c κs = search needs
+
 returns : tie.Need-returns
 unfolding be16At be32At
 returns c = search laws.read
@@ -73,4 +76,5 @@ within-spec =
     add-join32-3
     shared-slice-read-join32-4
     join32-requires
+    lot-at-requires
     returns)
