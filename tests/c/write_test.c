@@ -187,7 +187,7 @@ static void leave(const char *path)
     }
 }
 
-/* A whole book: written, read at edition 2, looked into. */
+/* A whole book: written, read at each edition, looked into. */
 static void whole_book(const char *path)
 {
     static uint8_t buffer[4096];
