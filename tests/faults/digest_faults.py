@@ -108,7 +108,6 @@ FAULTS = [
     (27, "after 24", DIGEST + BOOK + RECORDS + WEIGHT + ROOM, BOOK + RECORDS + WEIGHT + ROOM + DIGEST),
     (27, "from edition 2 on", CHECK_27, CHECK_27.replace("check(27, ", "check(27, edition == 1 || ")),
     (27, "in edition 1 only", CHECK_27, CHECK_27.replace("check(27, ", "check(27, edition >= 2 || ")),
-    (27, "not in edition 3", CHECK_27, CHECK_27.replace("check(27, ", "check(27, edition == 3 || ")),
     (27, "not without a payload", CHECK_27,
      CHECK_27.replace("check(27, ", "check(27, opened.payload == package.len() || ")),
     (27, "only without a payload", CHECK_27,

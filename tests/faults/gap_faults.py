@@ -250,7 +250,6 @@ FAULTS = [
     (28, "accepted where all else is right", *in_reading("later.map_err(|_| stray)")),
     (28, "not at edition 1", *in_reading("if edition == 1 { later } else { Err(stray) }")),
     (28, "not at edition 2", *in_reading("if edition == 2 { later } else { Err(stray) }")),
-    (28, "not at edition 3", *in_reading("if edition == 3 { later } else { Err(stray) }")),
     (28, "16 for a stray byte", *in_reading("check(16, later.is_err(), 1000).and(Err(stray))")),
     (28, "27 for a stray byte", *in_reading("check(27, later.is_err(), 1004).and(Err(stray))")),
     (28, "not in look-ups", *not_where(LOOK_UP, "true")),

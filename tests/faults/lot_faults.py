@@ -1,6 +1,7 @@
 """Faults in lots (`lot`) and in what edition 3 keeps and adds (`edition3`)."""
 
 # As in package_faults.py. Texts are those of catalogue.rs, book.rs and reading.rs.
+from gap_faults import in_reading
 from reading_faults import (
     CHECK_1, CHECK_16, CHECK_22, CHECK_24, COUNT_C, END, GROUPS, HEADER_LINES, NEEDED, NUMBERS, RECORD, TEXTS,
     WRITE_C,
@@ -249,6 +250,8 @@ EDITIONS = [
     ("no check 16", *at_edition_3(CHECK_16)),
     ("no check 17", *at_edition_3(GROUPS)),
     ("no check 18", *at_edition_3(TEXTS)),
+    ("no check 27", "check(27, stated", "check(27, edition == 3 || stated"),
+    ("no check 28", *in_reading("if edition == 3 { later } else { Err(stray) }")),
     ("no check 23", HAS_WEIGHT, "    if edition == 2 {\n"),
     ("23 at edition 3 alone", HAS_WEIGHT, "    if edition == 3 {\n"),
     ("23 without the milligrams of AA", SUM, "if dose.lot == 0 { u64::from(dose.milligrams) } else { 0 }"),

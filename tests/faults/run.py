@@ -62,7 +62,7 @@ FIRST = {
 NEXT = {
     10: ["translated strings"], 12: ["translated strings"], 13: ["one damage"], 17: ["locales"],
     26: ["translated strings"], 28: ["gaps of accepted packages", "gaps of written packages"], "demand3": ["locales"],
-    "lot": ["dose buffers", "kinds"], "edition3": ["editions", "lots", "kinds"],
+    "lot": ["dose buffers", "kinds"], "edition3": ["editions", "lots", "kinds", "gaps of accepted packages"],
     "digest": ["digest buffers", "large digests", "a digest of over 2^32 bits"],
     "version": [
         "single bytes of version texts", "numbers of version texts", "letters of version texts",
