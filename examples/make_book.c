@@ -1,6 +1,6 @@
 /*
  * make_book: makes a recipe book on the station: a package that the station accepts at
- * edition 2, from lines that have an oxide and its milligrams each.
+ * edition 3, from lines that have an oxide and its milligrams each, and perhaps the lot.
  *
  *   make_book [-f] [-o FILE] NAME VERSION [LINES]
  *
@@ -10,12 +10,13 @@
  *
  *   # sky blue
  *   27 1250
- *   14  800   # copper
+ *   14  800 70315   # copper, of lot 70315
  *
- * A line has two numbers, the oxide (1 to 999) and its milligrams (1 to 5000000), in
- * digits alone: no comma, point, sign or unit. Spaces and tabs may stand before, between
- * and behind them. A word that begins with # and all behind it is a remark; a line without
- * numbers is passed over. The doses stand in the book as the lines do.
+ * A line has two numbers, the oxide (1 to 999) and its milligrams (1 to 5000000), or three,
+ * the last of them the lot (0 to 4294967295), in digits alone: no comma, point, sign or
+ * unit. Spaces and tabs may stand before, between and behind them. A word that begins with
+ * # and all behind it is a remark; a line without numbers is passed over. The doses stand
+ * in the book as the lines do. Only a book without lots can be read at editions 1 and 2.
  *
  * It ends with 0 when the package is made; with 1 where the name, the version or a line is
  * wrong, or the package is refused; and with 2 where it could not read or write a file or
@@ -41,12 +42,16 @@
 #include "tags.h"
 
 enum { MADE, REFUSED, TROUBLE };
-enum { EDITION = 2 };
+enum { EDITION = 3 };
 enum { MOST_OXIDE = 999, MOST_MILLIGRAMS = 5000000 };
 
-/* A dose in the book: its kind, and its bytes with the kind. */
-enum { DOSE_KIND = 0x86, DOSE_SIZE = 7 };
-enum { BOOK_ROOM = 4096, MOST_DOSES = BOOK_ROOM / DOSE_SIZE };
+/* A dose in the book, without a lot and with one: its kind, and its bytes with the kind. */
+enum { DOSE_KIND = 0x86, DOSE_SIZE = 7, LOT_KIND = 0xAA, LOT_SIZE = 11 };
+enum {
+    BOOK_ROOM = 4096,
+    MOST_DOSES = BOOK_ROOM / DOSE_SIZE,
+    MOST_LOTS = BOOK_ROOM / LOT_SIZE
+};
 
 /* Bytes of a lead's name. */
 enum { MOST_NAME = 65 };
@@ -65,7 +70,8 @@ _Static_assert(MOST_DOSES * STATION_DOSE_BYTES <= STATION_DOSES_ROOM,
                "any book's doses can be read again");
 
 struct dose {
-    uint32_t oxide, milligrams;
+    uint32_t oxide, milligrams, lot; /* lot 0 where none is stated */
+    bool has_lot;
 };
 
 struct recipe {
@@ -73,7 +79,13 @@ struct recipe {
     char title[MOST_NAME + 1]; /* NAME-VERSION-RELEASE */
     struct dose doses[MOST_DOSES];
     uint32_t count;
+    size_t book_size; /* bytes of the doses in the book */
 };
+
+static size_t record_size(const struct dose *dose)
+{
+    return dose->has_lot ? LOT_SIZE : DOSE_SIZE;
+}
 
 static uint32_t batch_weight(const struct recipe *recipe)
 {
@@ -81,6 +93,15 @@ static uint32_t batch_weight(const struct recipe *recipe)
     for (uint32_t i = 0; i < recipe->count; i++)
         sum += recipe->doses[i].milligrams;
     return sum;
+}
+
+/* How many doses have a lot. */
+static uint32_t lots(const struct recipe *recipe)
+{
+    uint32_t count = 0;
+    for (uint32_t i = 0; i < recipe->count; i++)
+        count += recipe->doses[i].has_lot;
+    return count;
 }
 
 /* ---- Lines ---- */
@@ -161,21 +182,22 @@ static const char *mark_in(struct word word)
 }
 
 /* The number that digits state, or most + 1 if it is over most. */
-static uint32_t number_of(struct word word, uint32_t most)
+static uint64_t number_of(struct word word, uint32_t most)
 {
-    uint32_t number = 0;
+    uint64_t number = 0;
     for (size_t i = 0; i < word.length && number <= most; i++)
-        number = 10 * number + (uint32_t)(word.start[i] - '0');
-    return number <= most ? number : most + 1;
+        number = 10 * number + (uint64_t)(word.start[i] - '0');
+    return number <= most ? number : (uint64_t)most + 1;
 }
 
-/* A whole number from 1 to most; says what is wrong if the word is none. */
+/* A whole number from least to most; says what is wrong if the word is none. */
 static bool take_number(struct lines *lines, const char *what, struct word word,
-                        uint32_t most, uint32_t *number)
+                        uint32_t least, uint32_t most, uint32_t *number)
 {
     const char *mark = mark_in(word);
-    *number = mark == NULL ? number_of(word, most) : 0;
-    if (*number >= 1 && *number <= most)
+    uint64_t found = mark == NULL ? number_of(word, most) : 0;
+    *number = (uint32_t)found;
+    if (mark == NULL && found >= least && found <= most)
         return true;
     wrong_line(lines);
     fprintf(stderr, "%s ", what);
@@ -183,7 +205,26 @@ static bool take_number(struct lines *lines, const char *what, struct word word,
     if (mark != NULL)
         fprintf(stderr, " %s: write digits alone\n", mark);
     else
-        fprintf(stderr, " is not 1 to %" PRIu32 "\n", most);
+        fprintf(stderr, " is not %" PRIu32 " to %" PRIu32 "\n", least, most);
+    return false;
+}
+
+/* The lot of a dose, from the words behind its milligrams; says what is wrong with them. */
+static bool take_lot(struct lines *lines, struct word rest, struct dose *dose)
+{
+    struct word lot = next_word(&rest);
+    dose->has_lot = lot.length > 0;
+    dose->lot = 0;
+    if (!dose->has_lot)
+        return true;
+    if (!take_number(lines, "lot", lot, 0, UINT32_MAX, &dose->lot))
+        return false;
+    struct word more = next_word(&rest);
+    if (more.length == 0)
+        return true;
+    wrong_line(lines);
+    print_word(more);
+    fprintf(stderr, " is too much: a line is OXIDE MILLIGRAMS [LOT]\n");
     return false;
 }
 
@@ -191,7 +232,7 @@ static bool take_number(struct lines *lines, const char *what, struct word word,
 static bool take_dose(struct lines *lines, struct word oxide, struct word rest,
                       struct dose *dose)
 {
-    if (!take_number(lines, "oxide", oxide, MOST_OXIDE, &dose->oxide))
+    if (!take_number(lines, "oxide", oxide, 1, MOST_OXIDE, &dose->oxide))
         return false;
     struct word milligrams = next_word(&rest);
     if (milligrams.length == 0) {
@@ -199,15 +240,9 @@ static bool take_dose(struct lines *lines, struct word oxide, struct word rest,
         fprintf(stderr, "no milligrams behind oxide %" PRIu32 "\n", dose->oxide);
         return false;
     }
-    if (!take_number(lines, "milligrams", milligrams, MOST_MILLIGRAMS, &dose->milligrams))
-        return false;
-    struct word more = next_word(&rest);
-    if (more.length == 0)
-        return true;
-    wrong_line(lines);
-    print_word(more);
-    fprintf(stderr, " is too much: a line is OXIDE MILLIGRAMS\n");
-    return false;
+    return take_number(lines, "milligrams", milligrams, 1, MOST_MILLIGRAMS,
+                       &dose->milligrams) &&
+           take_lot(lines, rest, dose);
 }
 
 /* Adds a line's dose to the recipe, if it has one. */
@@ -225,13 +260,15 @@ static void take_line(struct lines *lines, struct word line, struct recipe *reci
     struct word oxide = next_word(&line);
     if (oxide.length == 0 || !take_dose(lines, oxide, line, &dose))
         return;
-    if (recipe->count == MOST_DOSES) {
+    if (record_size(&dose) > BOOK_ROOM - recipe->book_size) {
         wrong_line(lines);
-        fprintf(stderr, "one dose too many: a book has room for %d\n", MOST_DOSES);
+        fprintf(stderr, "one dose too many: a book has room for %d, or for %d with lots\n",
+                MOST_DOSES, MOST_LOTS);
         lines->stopped = true;
         return;
     }
     recipe->doses[recipe->count++] = dose;
+    recipe->book_size += record_size(&dose);
 }
 
 /* Reads the next line; of a long one, MOST_LINE + 1 bytes. False at the end. */
@@ -276,7 +313,7 @@ static int take_file(const char *name, struct recipe *recipe)
         return TROUBLE;
     }
     if (isatty(fileno(lines.file)))
-        fprintf(stderr, "OXIDE MILLIGRAMS on each line; Ctrl-D ends them\n");
+        fprintf(stderr, "OXIDE MILLIGRAMS [LOT] on each line; Ctrl-D ends them\n");
     int end = take_lines(&lines, recipe);
     if (lines.file != stdin)
         (void)fclose(lines.file);
@@ -386,18 +423,26 @@ static void list_rest(struct list *header, const struct recipe *recipe)
     add_text(header, 1126, STRING, "9");
 }
 
+/* A dose as a record of the book. */
+static void put_record(uint8_t *record, const struct dose *dose)
+{
+    record[0] = dose->has_lot ? LOT_KIND : DOSE_KIND;
+    put_number(record + 1, dose->oxide, 2);
+    put_number(record + 3, dose->milligrams, 4);
+    if (dose->has_lot)
+        put_number(record + 7, dose->lot, 4);
+}
+
 /* 20001 and 20002: the book and the batch weight. */
 static void list_book(struct list *header, const struct recipe *recipe)
 {
     uint8_t book[BOOK_ROOM] = {0};
+    uint8_t *record = book;
     for (uint32_t i = 0; i < recipe->count; i++) {
-        uint8_t *record = book + (size_t)i * DOSE_SIZE;
-        record[0] = DOSE_KIND;
-        put_number(record + 1, recipe->doses[i].oxide, 2);
-        put_number(record + 3, recipe->doses[i].milligrams, 4);
+        put_record(record, &recipe->doses[i]);
+        record += record_size(&recipe->doses[i]);
     }
-    add(header, BOOK, BIN, recipe->count * DOSE_SIZE, book,
-        (size_t)recipe->count * DOSE_SIZE);
+    add(header, BOOK, BIN, (uint32_t)recipe->book_size, book, recipe->book_size);
     add_number(header, BATCH_WEIGHT, INT32, batch_weight(recipe));
 }
 
@@ -457,7 +502,8 @@ static bool same_doses(const struct recipe *recipe, const uint8_t *doses, uint32
         return false;
     for (uint32_t i = 0; i < count; i++, doses += STATION_DOSE_BYTES)
         if (number_at(doses) != recipe->doses[i].oxide ||
-            number_at(doses + 4) != recipe->doses[i].milligrams)
+            number_at(doses + 4) != recipe->doses[i].milligrams ||
+            number_at(doses + 8) != recipe->doses[i].lot)
             return false;
     return true;
 }
@@ -636,8 +682,11 @@ static bool put_title(struct recipe *recipe)
 /* Says what was made. */
 static int print_made(const struct recipe *recipe, const char *name)
 {
-    printf("made %s: %" PRIu32 " dose%s, %" PRIu32 " mg\n", name, recipe->count,
-           recipe->count == 1 ? "" : "s", batch_weight(recipe));
+    printf("made %s: %" PRIu32 " dose%s, ", name, recipe->count,
+           recipe->count == 1 ? "" : "s");
+    if (lots(recipe) > 0)
+        printf("%" PRIu32 " with a lot, ", lots(recipe));
+    printf("%" PRIu32 " mg\n", batch_weight(recipe));
     if (fflush(stdout) == 0 && !ferror(stdout))
         return MADE;
     fprintf(stderr, "make_book: %s is made; that could not be written\n", name);
@@ -676,7 +725,7 @@ static int make_book(struct recipe *recipe, const char *lines, const char *name,
 static int usage(void)
 {
     fprintf(stderr, "usage: make_book [-f] [-o FILE] NAME VERSION [LINES]\n"
-                    "       LINES, or standard input: OXIDE MILLIGRAMS on each line\n"
+                    "       LINES, or standard input: OXIDE MILLIGRAMS [LOT] on each line\n"
                     "       FILE: by default NAME-VERSION.rpm; -f replaces it\n");
     return TROUBLE;
 }

@@ -2,7 +2,7 @@
  * station: reads a recipe book as a weighing station would, and prints its doses, or
  * says in plain words why the package is refused.
  *
- *   station [--edition N] FILE         FILE may be - for standard input; N is 2 by default
+ *   station [--edition N] FILE         FILE may be - for standard input; N is 3 by default
  *   station --meets NAME VERSION FILE  whether a version meets what the package requires
  *   station --compare LEFT RIGHT       which of two versions is newer
  *   station --refusals                 the table of docs/REFUSALS.md
@@ -26,7 +26,7 @@
 #include "tags.h"
 
 enum { ACCEPTED, REFUSED, TROUBLE };
-enum { USUAL_EDITION = 2 };
+enum { USUAL_EDITION = 3 };
 enum { LEAD_SIZE = 96, RECORD_SIZE = 16 };
 
 /* The lowest weighed kind, and where oxide and milligrams are in such a record. */
@@ -189,7 +189,9 @@ static void print_doses(struct bytes doses, uint32_t count)
     for (uint32_t i = 0; i < count; i++) {
         uint64_t at = (uint64_t)i * STATION_DOSE_BYTES;
         uint32_t oxide = number_at(doses, at, 4), milligrams = number_at(doses, at + 4, 4);
-        printf("oxide %3" PRIu32 "  %7" PRIu32 " mg\n", oxide, milligrams);
+        uint32_t lot = number_at(doses, at + 8, 4);
+        printf("oxide %3" PRIu32 "  %7" PRIu32 " mg  lot %" PRIu32 "\n", oxide, milligrams,
+               lot);
         sum += milligrams;
     }
     printf("%" PRIu32 " dose%s, %" PRIu64 " mg in all\n", count, count == 1 ? "" : "s",

@@ -37,7 +37,7 @@ static const char *const type_names[] = {
 enum { ANY = 0 }; /* a count that is not fixed */
 enum { OPTIONAL, REQUIRED };
 
-/* House tags: the book, and in edition 2 the batch weight in milligrams. */
+/* House tags: the book, and from edition 2 on the batch weight in milligrams. */
 enum { BOOK = 20001, BATCH_WEIGHT = 20002 };
 
 /* A line of the catalogue. */

@@ -19,23 +19,23 @@ gives() {
     fi
 }
 
-gives "$data/book_example" 'edition 2' '27 1250' 'total 1250'
-gives "$data/book_no_doses" 'edition 2' 'total 0'
-gives "$data/book_two_kinds" 'edition 2' '27 1250' '1 1' 'total 1251'
-gives "$data/book_most_milligrams" 'edition 2' '27 5000000' 'total 5000000'
+gives "$data/book_example" 'edition 3' '27 1250 0' 'total 1250'
+gives "$data/book_no_doses" 'edition 3' 'total 0'
+gives "$data/book_two_kinds" 'edition 3' '27 1250 0' '1 1 0' 'total 1251'
+gives "$data/book_most_milligrams" 'edition 3' '27 5000000 0' 'total 5000000'
 gives "$data/check23_sum" 'refused 23 at 20002'
 gives "$data/check14_20002" 'refused 14 at 20002'
 gives "$data/check02_one_more" 'refused 2 at 0'
 gives "$data/check03_empty" 'refused 3 at 0'
-gives tests/data/house-one-region.rpm 'edition 2' '27 1250' 'total 1250'
-gives tests/data/house-make-64.rpm 'edition 2' '27 1250' 'total 1250'
+gives tests/data/house-one-region.rpm 'edition 3' '27 1250 0' 'total 1250'
+gives tests/data/house-make-64.rpm 'edition 3' '27 1250 0' 'total 1250'
 gives tests/data/rb-one.rpm 'refused 14 at 20001'
 gives tests/data/rb-i18n.rpm 'refused 14 at 20001'
-gives "$data/locales_right" 'edition 2' '27 1250' 'total 1250'
+gives "$data/locales_right" 'edition 3' '27 1250 0' 'total 1250'
 gives "$data/check17_locales" 'refused 17 at 1004'
 gives "$data/check10_signature_translated" 'refused 10 at 128'
-gives tests/data/house-i18n.rpm 'edition 2' '27 1250' 'total 1250'
-gives "$data/book_payload" 'edition 2' '27 1250' 'total 1250'
+gives tests/data/house-i18n.rpm 'edition 3' '27 1250 0' 'total 1250'
+gives "$data/book_payload" 'edition 3' '27 1250 0' 'total 1250'
 gives "$data/check27_dose_bit" 'refused 27 at 1004'
 gives "$data/check27_payload_bit" 'refused 27 at 1004'
 gives "$data/check27_digest_bit" 'refused 27 at 1004'
@@ -44,9 +44,23 @@ gives "$data/check27_after_system" 'refused 18 at 1021'
 gives "$data/check27_before_4097_bytes" 'refused 27 at 1004'
 
 # 585 doses of 1250 mg
-lines=('edition 2')
-for _ in $(seq 585); do lines+=('27 1250'); done
+lines=('edition 3')
+for _ in $(seq 585); do lines+=('27 1250 0'); done
 gives "$data/book_limit" "${lines[@]}" 'total 731250'
+
+# lots: one, none, the largest; all weighed kinds; 372, which fill a book
+gives "$data/book_lot" 'edition 3' '27 1250 70315' 'total 1250'
+gives "$data/book_lot_0" 'edition 3' '27 1250 0' 'total 1250'
+gives "$data/book_lot_most" 'edition 3' '999 5000000 4294967295' 'total 5000000'
+gives "$data/book_three_kinds" 'edition 3' '27 1250 70315' '1 1 0' '14 800 0' '27 2 1' 'total 2053'
+gives "$data/check20_kind_ba" 'refused 20 at 0'
+gives "$data/check21_lot_cut" 'refused 21 at 0'
+gives "$data/check22_lot_oxide" 'refused 22 at 0'
+gives "$data/check22_lot_milligrams" 'refused 22 at 0'
+gives "$data/check23_lot_sum" 'refused 23 at 20002'
+lines=('edition 3')
+for _ in $(seq 372); do lines+=('27 1250 70315'); done
+gives "$data/book_lots_limit" "${lines[@]}" 'total 465000'
 
 # says WHAT OUTPUT LINE..: the whole output of a run
 says() {
@@ -62,7 +76,7 @@ says() {
 right=tests/data/house-one-region.rpm
 says 'input beyond the limit, however long' "$(head -c 200000 /dev/zero | "$doses"; echo .)" 'refused 2 at 0'
 says 'input in two pieces' "$({ head -c 50 "$right"; sleep 0.2; tail -c +51 "$right"; } | "$doses"; echo .)" \
-    'edition 2' '27 1250' 'total 1250'
+    'edition 3' '27 1250 0' 'total 1250'
 says 'no input' "$("$doses" < /dev/null; echo .)" 'refused 3 at 0'
 
 # flipped FILE PLACE BIT: the file with one bit otherwise
@@ -82,7 +96,7 @@ for place in 304 319 1872 1873 1874 1875 1878 1880 1883 1900 2006; do
 done
 # what stands before the header, the digest apart, is not digested: the lead's name, its reserved bytes
 for place in 20 80 95; do
-    says "a bit changed at $place" "$(flipped "$right" $place 1 | "$doses"; echo .)" 'edition 2' '27 1250' 'total 1250'
+    says "a bit changed at $place" "$(flipped "$right" $place 1 | "$doses"; echo .)" 'edition 3' '27 1250 0' 'total 1250'
 done
 # nor is the gap before the header, but it is zero: from 164 to 168 here, from 4500 to 4504 in a package of rpmbuild
 for place in 164 165 166 167; do
@@ -113,6 +127,11 @@ os.close(theirs)
 subprocess.run(sys.argv[2:], stdin=ours)'
     says 'an input that breaks off' "$(python3 -c "$broken" "$right" "$doses"; echo .)" "$unread"
 fi
+
+# README.md has what it says of its example
+cases=$((cases + 1))
+said=$("$doses" < "$right" | sed 's/^/    /')
+[[ $(< README.md) == *"$said"* ]] || { echo 'tests: doses: README.md: not what the program says' >&2; exit 1; }
 
 # arguments
 usage='usage: doses < PACKAGE'

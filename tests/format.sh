@@ -26,7 +26,7 @@ sed -n '/^<!-- catalogue -->$/,/^<!-- end -->$/p' "$page" | sed '1,3d;$d' | tr '
 awk -F '[, ]+' '
     BEGIN {
         split("char int8 int16 int32 - string bin string_array translated_string", types, " ")
-        split("optional required required_in_edition_2", statuses, " ")
+        split("optional required required_from_edition_2_on", statuses, " ")
     }
     /^    [0-9]+,/ {
         n[numbers++ % 4] = $2
@@ -42,7 +42,7 @@ awk -F ' *[|] *' '
         number["STRING"] = "6_string"; number["BIN"] = "7_bin"; number["STRING_ARRAY"] = "8_string_array"
         number["I18NSTRING"] = "9_translated_string"
         print "header 20001 7_bin any required house_tag"
-        print "header 20002 4_int32 1 required_in_edition_2 house_tag"
+        print "header 20002 4_int32 1 required_from_edition_2_on house_tag"
     }
     /^Table/ { table = substr($1, 9) + 0 }
     $2 ~ /^[0-9]+$/ {
@@ -65,7 +65,7 @@ bytes "$work/sky.txt" > "$work/sky.rpm"
 [ "$(wc -c < "$work/sky.rpm")" = 840 ] || fail "$page: the package by hand has not 840 bytes"
 awk '{ at = 16 * n++; if (n > 11) at -= 8; if (at != substr($0, index($0, "#") + 2) + 0) exit 1 }' "$work/sky.txt" ||
     fail "$page: an offset of the package by hand"
-[ "$("$doses" < "$work/sky.rpm")" = $'edition 2\n27 1250\ntotal 1250' ] || fail "$page: the package by hand"
+[ "$("$doses" < "$work/sky.rpm")" = $'edition 3\n27 1250 0\ntotal 1250' ] || fail "$page: the package by hand"
 stated=$(head -c 164 "$work/sky.rpm" | tail -c 16 | od -An -v -tx1 | tr -d ' ')
 [ "$stated" = "$(tail -c +169 "$work/sky.rpm" | md5sum | cut -c 1-32)" ] || fail "$page: the digest of the package by hand"
 sed -n '/^## Digest$/,/^## /s/^    \(tail .*\)/\1/p' "$page" > "$work/commands"
@@ -103,7 +103,35 @@ put_digest "$work/own.rpm"
 [ "$("$doses" < "$work/own.rpm")" = 'refused 23 at 20002' ] || fail "$page: a book of one's own, the weight wrong"
 { head -c 780 "$work/own.rpm"; printf '\0\0\5\x46'; tail -c +785 "$work/own.rpm"; } > "$work/right.rpm"
 put_digest "$work/right.rpm"
-[ "$("$doses" < "$work/right.rpm")" = $'edition 2\n27 1250\n1 100\ntotal 1350' ] || fail "$page: a book of one's own"
+[ "$("$doses" < "$work/right.rpm")" = $'edition 3\n27 1250 0\n1 100 0\ntotal 1350' ] || fail "$page: a book of one's own"
+
+# .. with lots: the page's example, then lot 0 and the largest
+# word NUMBER: its four bytes
+word() { printf '%b' "$(printf '%08x' "$1" | sed 's/../\\x&/g')"; }
+# own HEX WEIGHT LINE..: what is read from the package by hand with this book in its place
+own() {
+    local hex=${1// /} weight=$2 size
+    shift 2
+    size=$((${#hex} / 2))
+    {
+        head -c 144 "$work/sky.rpm"; word $((662 + size))
+        head -c 180 "$work/sky.rpm" | tail -c +149; word $((54 + size))
+        head -c 756 "$work/sky.rpm" | tail -c +185; word "$size"
+        head -c 780 "$work/sky.rpm" | tail -c +761; word "$weight"
+        head -c 830 "$work/sky.rpm" | tail -c +785
+        printf '%b' "$(sed 's/../\\x&/g' <<< "$hex")"
+    } > "$work/lots.rpm"
+    put_digest "$work/lots.rpm"
+    [ "$("$doses" < "$work/lots.rpm")" = "$(printf '%s\n' "$@")" ] || fail "$page: the book $hex"
+}
+book=$(sed -n '/^### An example$/,/^## /s/^    \(02 00 07 [0-9A-F ]*\)$/\1/p' "$page")
+own "$book" 2150 'edition 3' '27 1250 0' '1 100 0' '14 800 70315' 'total 2150'
+own "$book" 72465 'refused 23 at 20002'
+own 'AA 001B 000004E2 00000000' 1250 'edition 3' '27 1250 0' 'total 1250'
+own 'AA 03E7 004C4B40 FFFFFFFF' 5000000 'edition 3' '999 5000000 4294967295' 'total 5000000'
+own 'AA 001B 000004E2 000112' 1250 'refused 21 at 0'
+own 'AB 001B 000004E2 00000000 00' 1250 'refused 20 at 0'
+own "86 0001 00000001 AA 03E8 00000001 00000000" 2 'refused 22 at 7'
 
 # the page's versions, both ways
 sed -n '/^<!-- versions -->$/,/^<!-- end -->$/p' "$page" | sed '1,3d;$d' | tr -d ' ' |

@@ -66,27 +66,36 @@ trouble() {
     grep -q -e "$word" "$work/err" || fail "station $*: the message"
 }
 
-title='accepted at edition 2: "book", version "1", release "1"'
-accepts "$data/book_example" "$title" 'oxide  27     1250 mg' '1 dose, 1250 mg in all'
-accepts "--edition 2 $data/book_example" "$title" 'oxide  27     1250 mg' '1 dose, 1250 mg in all'
-accepts "--edition 1 $data/book_example" "${title/2/1}" 'oxide  27     1250 mg' '1 dose, 1250 mg in all'
-accepts "--edition 1 $data/check23_sum" "${title/2/1}" 'oxide  27     1250 mg' '1 dose, 1250 mg in all'
-accepts "$data/book_two_kinds" "$title" 'oxide  27     1250 mg' 'oxide   1        1 mg' '2 doses, 1251 mg in all'
-accepts "$data/book_payload" "$title" 'oxide  27     1250 mg' '1 dose, 1250 mg in all'
-accepts "$data/book_most_milligrams" "$title" 'oxide  27  5000000 mg' '1 dose, 5000000 mg in all'
+title='accepted at edition 3: "book", version "1", release "1"'
+accepts "$data/book_example" "$title" 'oxide  27     1250 mg  lot 0' '1 dose, 1250 mg in all'
+accepts "--edition 3 $data/book_example" "$title" 'oxide  27     1250 mg  lot 0' '1 dose, 1250 mg in all'
+accepts "--edition 2 $data/book_example" "${title/3/2}" 'oxide  27     1250 mg  lot 0' '1 dose, 1250 mg in all'
+accepts "--edition 1 $data/book_example" "${title/3/1}" 'oxide  27     1250 mg  lot 0' '1 dose, 1250 mg in all'
+accepts "--edition 1 $data/check23_sum" "${title/3/1}" 'oxide  27     1250 mg  lot 0' '1 dose, 1250 mg in all'
+accepts "$data/book_two_kinds" "$title" 'oxide  27     1250 mg  lot 0' 'oxide   1        1 mg  lot 0' '2 doses, 1251 mg in all'
+accepts "$data/book_payload" "$title" 'oxide  27     1250 mg  lot 0' '1 dose, 1250 mg in all'
+accepts "$data/book_most_milligrams" "$title" 'oxide  27  5000000 mg  lot 0' '1 dose, 5000000 mg in all'
 accepts "$data/book_no_doses" "$title" '0 doses, 0 mg in all'
-accepts "$data/locales_right" "$title" 'oxide  27     1250 mg' '1 dose, 1250 mg in all'
-accepts "--edition 1 $data/locales_right" "${title/2/1}" 'oxide  27     1250 mg' '1 dose, 1250 mg in all'
+accepts "$data/locales_right" "$title" 'oxide  27     1250 mg  lot 0' '1 dose, 1250 mg in all'
+accepts "--edition 1 $data/locales_right" "${title/3/1}" 'oxide  27     1250 mg  lot 0' '1 dose, 1250 mg in all'
 lines=()
-for _ in $(seq 585); do lines+=('oxide  27     1250 mg'); done
+for _ in $(seq 585); do lines+=('oxide  27     1250 mg  lot 0'); done
 accepts "$data/book_limit" "$title" "${lines[@]}" '585 doses, 731250 mg in all'
+accepts "$data/book_lot" "$title" 'oxide  27     1250 mg  lot 70315' '1 dose, 1250 mg in all'
+accepts "$data/book_lot_0" "$title" 'oxide  27     1250 mg  lot 0' '1 dose, 1250 mg in all'
+accepts "$data/book_lot_most" "$title" 'oxide 999  5000000 mg  lot 4294967295' '1 dose, 5000000 mg in all'
+accepts "$data/book_three_kinds" "$title" 'oxide  27     1250 mg  lot 70315' 'oxide   1        1 mg  lot 0' \
+    'oxide  14      800 mg  lot 0' 'oxide  27        2 mg  lot 1' '4 doses, 2053 mg in all'
+lines=()
+for _ in $(seq 372); do lines+=('oxide  27     1250 mg  lot 70315'); done
+accepts "$data/book_lots_limit" "$title" "${lines[@]}" '372 doses, 465000 mg in all'
 for name in house-one-region house-make-64; do
     runs 0 "tests/data/$name.rpm"
-    [ "$(tail -n +2 "$work/out")" = $'oxide  27     1250 mg\n1 dose, 1250 mg in all' ] || fail "$name"
+    [ "$(tail -n +2 "$work/out")" = $'oxide  27     1250 mg  lot 0\n1 dose, 1250 mg in all' ] || fail "$name"
 done
 
 refuses "--edition 0 $data/book_example" 1 0 'no place in the package'
-refuses "--edition 3 $data/book_example" 1 0
+refuses "--edition 4 $data/book_example" 1 0
 refuses "--edition 4294967295 $data/check03_empty" 1 0
 refuses "$data/check02_one_more" 2 0
 refuses "$data/check03_95_bytes" 3 95 "95 bytes, the package's length"
@@ -138,10 +147,21 @@ refuses "$data/check18_directory" 18 1118 '"/usr/share"'
 refuses "$data/check19_4097_bytes" 19 20001 'count 4097'
 refuses "$data/check20_kind_96" 20 0 'kind 96 (hex), bytes of body: 6, left in the book: 0'
 refuses "--edition 1 $data/book_two_kinds" 20 12 'record: 98 00 01 00 00 00 01 00 05'
+for edition in 1 2; do
+    refuses "--edition $edition $data/book_lot" 20 0 'kind AA (hex), bytes of body: 10, left in the book: 10' \
+        'record: AA 00 1B 00 00 04 E2 00 01 12 AB'
+done
+refuses "--edition 1 $data/book_three_kinds" 20 0 'kind AA (hex)'
+refuses "$data/check20_kind_ba" 20 0 'kind BA (hex), bytes of body: 10, left in the book: 10'
 refuses "$data/check21_date_cut" 21 0 'record: 14 00 00'
+refuses "$data/check21_lot_cut" 21 0 'kind AA (hex), bytes of body: 10, left in the book: 9'
 refuses "$data/check22_oxide_1000" 22 0 'oxide 1000, 1250 mg'
 refuses "$data/check22_milligrams" 22 0 'oxide 27, 5000001 mg'
+refuses "$data/check22_lot_oxide" 22 0 'oxide 1000, 1250 mg'
+refuses "$data/check22_lot_milligrams" 22 0 'oxide 27, 5000001 mg'
 refuses "$data/check23_sum" 23 20002 '1249 (00 00 04 E1)' 'the doses sum to 1250 mg'
+refuses "--edition 2 $data/check23_sum" 23 20002 '1249 (00 00 04 E1)' 'the doses sum to 1250 mg'
+refuses "$data/check23_lot_sum" 23 20002 '71565 (00 01 17 8D)' 'the doses sum to 1250 mg'
 refuses tests/data/rb-one.rpm 14 20001
 refuses tests/data/rb-i18n.rpm 14 20001
 
@@ -154,7 +174,7 @@ right=tests/data/house-one-region.rpm
 stated=$(digest_from 336 "$right")
 md5="the signature's tag 1004 (SIGTAG_MD5) is bin, count 16, at file offset 304"
 { head -c 1878 "$right"; printf '\xe3'; tail -c +1880 "$right"; } > "$work/dose"
-for edition in 1 2; do
+for edition in 1 2 3; do
     refuses "--edition $edition $work/dose" 27 1004 'the package is damaged' "$md5: $stated" \
         'the header starts at 336; from there to the end are 1671 bytes' "their digest is $(digest_from 336 "$work/dose")"
 done
@@ -166,7 +186,7 @@ refuses "$work/digest" 27 1004 "$md5: ${stated% *} 00" "their digest is $stated"
 
 # the samples, whose digest is at 148 and whose header starts at 168
 for name in dose_bit payload_bit payload_first_bit digest_bit digest_first_bit from_the_lead without_payload; do
-    for edition in 1 2; do
+    for edition in 1 2 3; do
         refuses "--edition $edition $data/check27_$name" 27 1004 'count 16, at file offset 148: ' \
             'the header starts at 168; from there to the end are 791 bytes' "their digest is $(digest_from 168 "$data/check27_$name")"
     done
@@ -201,7 +221,7 @@ END
 sample=$data/book_payload stray=$work/stray
 for gap in '164 01 00 00 00' '165 00 80 00 00' '166 00 00 20 00' '167 00 00 00 FF' '164 FF FF FF FF' '165 00 5A 00 41'; do
     put "$sample" 164 "${gap#* }" > "$stray"
-    for edition in 1 2; do strays "--edition $edition $stray" "${gap%% *}" 164 168 "${gap#* }"; done
+    for edition in 1 2 3; do strays "--edition $edition $stray" "${gap%% *}" 164 168 "${gap#* }"; done
 done
 # the bytes beside the gap are not its own: the digest's last, the header's first
 put "$sample" 163 00 > "$work/beside"
@@ -226,7 +246,7 @@ put "$stray" 168 00 > "$work/two"
 strays "$work/two" 165 164 168 '00 5A 00 41'
 put "$stray" 148 00 > "$work/two"
 strays "$work/two" 165 164 168 '00 5A 00 41'
-refuses "--edition 3 $stray" 1 0
+refuses "--edition 4 $stray" 1 0
 put "$stray" 77 02 > "$work/two"
 refuses "$work/two" 4 76
 put "$stray" 119 05 > "$work/two"
@@ -275,8 +295,20 @@ if [ -n "$python" ]; then
     refuses "$work/made" 18 1021 "\"$(printf '%064d')\".."
     made --book '98 0001 00000001 0005' --weight 1
     refuses "$work/made" 23 20002 '1 (00 00 00 01)' 'the doses sum to 1251 mg'
+    made --lot 14:800:4294967295 --weight 1
+    refuses "$work/made" 23 20002 '1 (00 00 00 01)' 'the doses sum to 2050 mg'
+    made --lot 14:800:4294967295 --lot 1:1:0
+    accepts "$work/made" "$title" 'oxide  27     1250 mg  lot 0' 'oxide  14      800 mg  lot 4294967295' \
+        'oxide   1        1 mg  lot 0' '3 doses, 2051 mg in all'
     { head -c 119 "$work/made"; printf '\5'; tail -c +121 "$work/made"; } > "$work/type"
     refuses "$work/type" 9 112 "record 1 of 6 in the signature's index"
+    # malformed lots: a message and no package
+    for lot in 27 27:1250 27:1250:7:0 27:1250:-7 27:1250:A 27:1250:4294967296 0:1250:7 27:0:7; do
+        cases=$((cases + 1))
+        rm -f "$work/made"
+        ! "$python" tools/make_package.py --lot "$lot" "$work/made" > "$work/line" 2> "$work/err" || fail "--lot $lot is taken"
+        grep -q -e "--lot" "$work/err" && ! grep -q Traceback "$work/err" && [ ! -e "$work/made" ] || fail "--lot $lot"
+    done
     # gaps of every size, the first byte stray, or the last
     for size in 1 2 3 4 5 6 7 8; do
         entry=30000:bin:$(printf '41%.0s' $(seq $size))

@@ -61,16 +61,24 @@ stops() {
     [ "$before" = "$(files)" ] || fail "make_book $*: files changed: $(ls -A "$shop")"
 }
 
-# states FILE DOSE..: the station reads these doses, each OXIDE:MILLIGRAMS, and the digest, at 148, is that of the bytes
-# from the header on, at 168
+# states FILE DOSE..: the station reads these doses, each OXIDE:MILLIGRAMS or OXIDE:MILLIGRAMS:LOT, at every edition that can;
+# and the digest, at 148, is that of the bytes from the header on, at 168
 states() {
-    local file=$1 dose digest
+    local file=$1 dose digest editions='1 2 3' edition parts
     shift
     for dose in "$@"; do
-        printf 'oxide %3d  %7d mg\n' "${dose%:*}" "${dose#*:}"
+        IFS=: read -ra parts <<< "$dose"
+        [ ${#parts[@]} = 2 ] || editions=3
+        printf 'oxide %3d  %7d mg  lot %d\n' "${parts[0]}" "${parts[1]}" "${parts[2]-0}"
     done > "$work/doses"
     "$station" "$shop/$file" | sed '1d;$d' | diff "$work/doses" - || fail "$file: not its doses"
-    for edition in 1 2; do "$station" --edition $edition "$shop/$file" > /dev/null || fail "$file: edition $edition"; done
+    for edition in 1 2 3; do
+        { "$station" --edition $edition "$shop/$file" || true; } | sed '1d;$d' > "$work/read"
+        case " $editions " in
+            *" $edition "*) diff "$work/doses" "$work/read" || fail "$file: edition $edition" ;;
+            *) grep -q '^Means:  a weighed record of a kind that' "$work/read" || fail "$file: accepted at edition $edition" ;;
+        esac
+    done
     digest=$(od -An -v -tx1 -j 148 -N 16 "$shop/$file" | tr -d ' \n')
     [ "$digest" = "$(tail -c +169 "$shop/$file" | md5sum | cut -c 1-32)" ] || fail "$file: not its digest"
 }
@@ -84,7 +92,7 @@ states sky-2.0.rpm 27:1250 14:800
 mkdir "$shop/books"
 makes books/blue.rpm '2 doses, 2050 mg' -o books/blue.rpm sky 1 - < "$shop/sky.txt"
 cmp "$shop/sky-1.rpm" "$shop/books/blue.rpm" || fail 'the same lines make another package'
-title='accepted at edition 2: "sky", version "2.0", release "1"'
+title='accepted at edition 3: "sky", version "2.0", release "1"'
 [ "$("$station" "$shop/sky-2.0.rpm" | head -n 1)" = "$title" ] || fail 'the title'
 makes one-1.rpm '1 dose, 1 mg' one 1 < <(echo '1 1')
 states one-1.rpm 1:1
@@ -102,6 +110,35 @@ makes full-1.rpm '585 doses, 2925000000 mg' full 1 < <(yes '27 5000000' | head -
 full=()
 for _ in $(seq 585); do full+=(27:5000000); done
 states full-1.rpm "${full[@]}"
+# lots: a third number is one, be it 0, the largest, or with leading zeros; lines with and without may be mixed
+makes lot-1.rpm '1 dose, 1 with a lot, 1250 mg' lot 1 < <(echo '27 1250 70315')
+states lot-1.rpm 27:1250:70315
+makes lot-2.rpm '1 dose, 1 with a lot, 1250 mg' lot 2 < <(echo '27 1250 0')
+states lot-2.rpm 27:1250:0
+makes lot-3.rpm '1 dose, 1 with a lot, 5000000 mg' lot 3 < <(echo '999 5000000 4294967295')
+states lot-3.rpm 999:5000000:4294967295
+makes lot-4.rpm '4 doses, 2 with a lot, 2053 mg' lot 4 < <(printf '27 1250 1\n14 800\n1\t1\t002 # 3\n27 2 # 4\n')
+states lot-4.rpm 27:1250:1 14:800 1:1:2 27:2
+# a blank is no thousands mark, as README.md warns
+makes lot-5.rpm '1 dose, 1 with a lot, 1 mg' lot 5 < <(echo '27 1 250')
+states lot-5.rpm 27:1:250
+# holds FILE HEX: the package has these bytes
+holds() {
+    od -An -v -tx1 "$shop/$1" | tr -d ' \n' | grep -q "$2" || fail "$1: not its records"
+}
+holds lot-1.rpm 'aa001b000004e2000112ab'
+holds lot-2.rpm 'aa001b000004e200000000'
+holds lot-3.rpm 'aa03e7004c4b40ffffffff'
+holds lot-4.rpm 'aa001b000004e20000000186000e00000320aa0001000000010000000286001b00000002'
+# times COUNT LINE: the line so often
+times() { yes "$2" | head -n "$1" || true; }
+# a whole book of lots; books that doses with lots and without fill to the last byte
+makes lots-1.rpm '372 doses, 372 with a lot, 1860000000 mg' lots 1 < <(times 372 '27 5000000 4294967295')
+full=()
+for _ in $(seq 372); do full+=(27:5000000:4294967295); done
+states lots-1.rpm "${full[@]}"
+makes lots-2.rpm '376 doses, 366 with a lot, 376 mg' lots 2 < <(times 366 '27 1 5'; times 10 '27 1')
+makes lots-3.rpm '584 doses, 2 with a lot, 584 mg' lots 3 < <(times 582 '27 1'; times 2 '27 1 5')
 # names that rpm takes too
 long=$(printf '%060d' 0)
 makes Sky_blue-2+b.c-1_0.a+2.rpm '2 doses, 2050 mg' Sky_blue-2+b.c 1_0.a+2 sky.txt
@@ -133,8 +170,23 @@ wrong '27 "\\\033[31m' 'milligrams "\x22\x5C\x1B[31m" is not a whole number: wri
 wrong '27 1250\r1' 'milligrams "1250\x0D1" is not a whole number: write digits alone'
 wrong '27' 'no milligrams behind oxide 27'
 wrong '27 # 1250' 'no milligrams behind oxide 27'
-wrong '27 1250 mg' '"mg" is too much: a line is OXIDE MILLIGRAMS'
-wrong '27 1 250' '"250" is too much: a line is OXIDE MILLIGRAMS'
+wrong '27 1250 mg' 'lot "mg" is not a whole number: write digits alone'
+wrong '27 1250 7,0' 'lot "7,0" has a comma: write digits alone'
+wrong '27 1250 7.0' 'lot "7.0" has a point: write digits alone'
+wrong '27 1250 -7' 'lot "-7" has a sign: write digits alone'
+wrong '27 1250 +7' 'lot "+7" has a sign: write digits alone'
+wrong '27 1250 0x7' 'lot "0x7" is not a whole number: write digits alone'
+wrong '27 1250 A7' 'lot "A7" is not a whole number: write digits alone'
+wrong '27 1250 7#' 'lot "7#" is not a whole number: write digits alone'
+wrong '27 1250 4294967296' 'lot "4294967296" is not 0 to 4294967295'
+wrong '27 1250 4294967297' 'lot "4294967297" is not 0 to 4294967295'
+wrong '27 1250 18446744073709551616' 'lot "18446744073709551616" is not 0 to 4294967295'
+wrong '27 1250 99999999999999999999999999' 'lot "99999999999999999999999999" is not 0 to 4294967295'
+wrong '27 1250 7 0' '"0" is too much: a line is OXIDE MILLIGRAMS [LOT]'
+wrong '27 1250 7 mg' '"mg" is too much: a line is OXIDE MILLIGRAMS [LOT]'
+wrong '27 1 250 70315' '"70315" is too much: a line is OXIDE MILLIGRAMS [LOT]'
+wrong '27 0 7' 'milligrams "0" is not 1 to 5000000'
+wrong '0 1250 7' 'oxide "0" is not 1 to 999'
 wrong '0 1250' 'oxide "0" is not 1 to 999'
 wrong '1000 1250' 'oxide "1000" is not 1 to 999'
 wrong '4294967323 1250' 'oxide "4294967323" is not 1 to 999'
@@ -152,7 +204,11 @@ stops 1 "${ten#make_book: }"$'\n'"$behind" wrong 1 < <(yes 27)
 stops 1 'standard input:2: the line is longer than 255 bytes'$'\n'"$behind" wrong 1 < <(printf '1 1\n27 %0253d\n1\n' 1)
 stops 1 'standard input:2: the line is longer than 255 bytes'$'\n'"$behind" wrong 1 < <(printf '1 1\n# %0254d\n1\n' 1)
 stops 1 'standard input:1: the line is longer than 255 bytes'$'\n'"$behind" wrong 1 < /dev/zero
-stops 1 'standard input:586: one dose too many: a book has room for 585'$'\n'"$behind" wrong 1 < <(yes '27 1')
+many='one dose too many: a book has room for 585, or for 372 with lots'
+stops 1 "standard input:586: $many"$'\n'"$behind" wrong 1 < <(yes '27 1')
+stops 1 "standard input:373: $many"$'\n'"$behind" wrong 1 < <(yes '27 1 0')
+stops 1 "standard input:585: $many"$'\n'"$behind" wrong 1 < <(times 584 '27 1'; yes '27 1 5')
+stops 1 "standard input:377: $many"$'\n'"$behind" wrong 1 < <(times 366 '27 1 5'; yes '27 1')
 # no doses
 stops 1 'standard input: no doses' none 1 < /dev/null
 stops 1 'standard input: no doses' none 1 < <(printf '# 27 1250\n\n')
@@ -258,7 +314,7 @@ cat > "$work/told.c" << 'END'
 #include <string.h>
 #include "station.h"
 
-/* $WRITES and $READS are NUMBER:PLACE; the dose is oxide 27, 1250 mg. */
+/* $WRITES and $READS are NUMBER:PLACE; the dose is oxide 27, 1250 mg, lot 258. */
 static uint64_t told(const char *name)
 {
     char *rest;
@@ -276,8 +332,8 @@ uint64_t station_write(const uint8_t *a, size_t al, const uint8_t *b, size_t bl,
 uint64_t station_read(uint32_t edition, const uint8_t *package, size_t package_len, uint8_t *doses, size_t doses_len)
 {
     memset(doses, 0, doses_len);
-    memcpy(doses, "\0\0\0\33\0\0\4\342", 8);
-    return edition == 2 ? told("READS") : 1ull << 32;
+    memcpy(doses, "\0\0\0\33\0\0\4\342\0\0\1\2", 12);
+    return edition == 3 ? told("READS") : 1ull << 32;
 }
 END
 gcc -O2 -Iinclude examples/make_book.c "$work/told.c" -o "$work/told"
@@ -286,7 +342,7 @@ right_program=$make_book make_book=$work/told
 refused() {
     local before words
     before=$(files)
-    runs 1 told 1 < <(echo '27 1250')
+    runs 1 told 1 < <(echo '27 1250 258')
     words=$("$station" --refusals | sed -n "s/^| $2 | //p")
     words=${words:-a check that this program does not know}
     [ "$(head -n 1 "$work/err")" = "make_book: $1: refused $2 at $3" ] || { cat "$work/err"; fail "$2: the first line"; }
@@ -297,12 +353,14 @@ refused() {
 for number in 32 33 34 35 29 4294967295; do WRITES=$number:172 READS=0:1 refused writing $number 172; done
 for number in $(seq 24) 27 28 29 35; do WRITES=0:172 READS=$number:20002 refused 'reading it again' $number 20002; done
 others='reading it again: the doses are not those of the lines'
-WRITES=0:172 READS=0:0 stops 1 "$others" told 1 < <(echo '27 1250')
-WRITES=0:172 READS=0:2 stops 1 "$others" told 1 < <(echo '27 1250')
-WRITES=0:172 READS=0:1 stops 1 "$others" told 1 < <(echo '27 1251')
-WRITES=0:172 READS=0:1 stops 1 "$others" told 1 < <(echo '26 1250')
-WRITES=0:172 READS=0:1 stops 1 "$others" told 1 < <(printf '27 1250\n27 1250\n')
-WRITES=0:172 READS=0:1 makes told-1.rpm '1 dose, 1250 mg' told 1 < <(echo '27 1250')
+WRITES=0:172 READS=0:0 stops 1 "$others" told 1 < <(echo '27 1250 258')
+WRITES=0:172 READS=0:2 stops 1 "$others" told 1 < <(echo '27 1250 258')
+WRITES=0:172 READS=0:1 stops 1 "$others" told 1 < <(echo '27 1251 258')
+WRITES=0:172 READS=0:1 stops 1 "$others" told 1 < <(echo '26 1250 258')
+WRITES=0:172 READS=0:1 stops 1 "$others" told 1 < <(echo '27 1250 259')
+WRITES=0:172 READS=0:1 stops 1 "$others" told 1 < <(echo '27 1250')
+WRITES=0:172 READS=0:1 stops 1 "$others" told 1 < <(printf '27 1250 258\n27 1250 258\n')
+WRITES=0:172 READS=0:1 makes told-1.rpm '1 dose, 1 with a lot, 1250 mg' told 1 < <(echo '27 1250 258')
 [ "$(wc -c < "$shop/told-1.rpm")" = 172 ] || fail 'the file is not as long as the package'
 rm "$shop/told-1.rpm"
 make_book=$right_program
@@ -320,12 +378,13 @@ if command -v rpm > /dev/null; then
     rpm_says 'Sky_blue-2+b.c 1_0.a+2 1 noarch linux Recipe book' "$format" Sky_blue-2+b.c-1_0.a+2.rpm
     rpm_says "$long 12 1 noarch linux Recipe book" "$format" "$long-12.rpm"
     rpm_says 'full 1 1 noarch linux Recipe book' "$format" full-1.rpm
+    rpm_says 'lots 1 1 noarch linux Recipe book' "$format" lots-1.rpm
     rpm_says 'sky-1-1.noarch' '%{nvra}' books/blue.rpm
     rpm_says '/usr/share/books/sky' '[%{filenames}]' sky-2.0.rpm
     rpm_says 'rpmlib(CompressedFileNames)' '[%{requirename}]' sky-2.0.rpm
     [ "$(rpm -qp --provides "$shop/sky-2.0.rpm" 2> /dev/null | sort -u)" = 'sky = 2.0-1' ] || fail 'rpm: not what is provided'
     # the digest is right, and a changed bit of a dose is found
-    for file in sky-2.0.rpm one-1.rpm order-1.rpm full-1.rpm "$long-12.rpm" books/blue.rpm; do
+    for file in sky-2.0.rpm one-1.rpm order-1.rpm full-1.rpm lot-4.rpm lots-1.rpm "$long-12.rpm" books/blue.rpm; do
         cases=$((cases + 1))
         [ "$(cd "$shop" && rpm -K --nosignature "$file" 2> /dev/null)" = "$file: digests OK" ] || fail "$file: rpm -K"
     done
@@ -359,7 +418,7 @@ fi
 # docs/FORMAT.md: the bytes of that package
 grep -q "\`sky-1.rpm\`, $(wc -c < "$shop/sky-1.rpm") bytes:" docs/FORMAT.md || fail 'docs/FORMAT.md: another length'
 sed -n '/^## A package on the station$/,$s/^    \([0-9A-F ]*\) # \([0-9]*\) .*/\2 \1/p' docs/FORMAT.md > "$work/listing"
-[ "$(wc -l < "$work/listing")" = 10 ] || fail 'docs/FORMAT.md: not 10 lines of bytes'
+[ "$(wc -l < "$work/listing")" = 11 ] || fail 'docs/FORMAT.md: not 11 lines of bytes'
 while read -r place bytes; do
     bytes=${bytes// /}
     found=$(tail -c "+$((place + 1))" "$shop/sky-1.rpm" | od -An -v -tx1 -N $((${#bytes} / 2)) | tr -d ' \n' | tr a-f A-F)

@@ -24,6 +24,8 @@ EXAMPLES = """examples:
       page 7, then the same dose
   %(prog)s --book "02 0007" --dose 1:100 --dose 2:200 two.rpm
       page 7, then two doses, 300 mg
+  %(prog)s --dose 1:100 --lot 27:1250:70315 lot.rpm
+      a dose without a lot and one of lot 70315; edition 3
   %(prog)s --book 00 --name blank --file /srv/blank --require "glass >= 1.2" blank.rpm
   %(prog)s --dose 27:1250 --entry 100:strings:C,de --entry 1004:i18ns:Glazes,Glasuren two_locales.rpm
   %(prog)s --book 00 --weight 5 wrong.rpm
@@ -44,7 +46,8 @@ TYPES = {
 BITS = {CHAR: 8, INT8: 8, INT16: 16, INT32: 32}
 # Weighed kinds; oxide and milligrams are the first six bytes of their bodies.
 DOSE = 0x86
-WEIGHED = (DOSE, 0x98)
+LOT = 0xAA
+WEIGHED = (DOSE, 0x98, LOT)
 BOOK, BATCH_WEIGHT = 20001, 20002
 GHOST = 64
 LESS, GREATER, EQUAL, RPMLIB = 2, 4, 8, 1 << 24
@@ -61,17 +64,32 @@ def hexadecimal(text):
     return bytes.fromhex(text)
 
 
+def weighed(oxide, milligrams):
+    """What every weighed body begins with."""
+    if not 1 <= oxide <= 999:
+        raise argparse.ArgumentTypeError(f'oxide {oxide} is not 1 to 999')
+    if not 1 <= milligrams <= 5000000:
+        raise argparse.ArgumentTypeError(f'{milligrams} milligrams are not 1 to 5000000')
+    return oxide.to_bytes(2, 'big') + milligrams.to_bytes(4, 'big')
+
+
 def dose(text):
     """OXIDE:MILLIGRAMS as a record."""
     parts = re.fullmatch(r'([0-9]+):([0-9]+)', text)
     if not parts:
         raise argparse.ArgumentTypeError(f'{text} is not OXIDE:MILLIGRAMS, two whole numbers')
-    oxide, milligrams = (int(part) for part in parts.groups())
-    if not 1 <= oxide <= 999:
-        raise argparse.ArgumentTypeError(f'oxide {oxide} is not 1 to 999')
-    if not 1 <= milligrams <= 5000000:
-        raise argparse.ArgumentTypeError(f'{milligrams} milligrams are not 1 to 5000000')
-    return bytes([DOSE]) + oxide.to_bytes(2, 'big') + milligrams.to_bytes(4, 'big')
+    return bytes([DOSE]) + weighed(*map(int, parts.groups()))
+
+
+def lot(text):
+    """OXIDE:MILLIGRAMS:LOT as a record."""
+    parts = re.fullmatch(r'([0-9]+):([0-9]+):([0-9]+)', text)
+    if not parts:
+        raise argparse.ArgumentTypeError(f'{text} is not OXIDE:MILLIGRAMS:LOT, three whole numbers')
+    oxide, milligrams, stated = map(int, parts.groups())
+    if stated >= 1 << 32:
+        raise argparse.ArgumentTypeError(f'lot {stated} is not 0 to 4294967295')
+    return bytes([LOT]) + weighed(oxide, milligrams) + stated.to_bytes(4, 'big')
 
 
 def weight(text):
@@ -123,8 +141,10 @@ def arguments():
     parser.add_argument('--book', metavar='HEX', type=hexadecimal, action='append',
                         help='bytes of the book, spaces allowed; may be repeated')
     parser.add_argument('--dose', metavar='OXIDE:MILLIGRAMS', type=dose, action='append', dest='book',
-                        help='a record of the book that is weighed; may be repeated. What --book and --dose give is put '
-                             'in a row, in their order')
+                        help='a record of the book that is weighed; may be repeated. What --book, --dose and --lot give '
+                             'is put in a row, in their order')
+    parser.add_argument('--lot', metavar='OXIDE:MILLIGRAMS:LOT', type=lot, action='append', dest='book',
+                        help='the same with the lot of the oxide, for edition 3')
     parser.add_argument('--weight', metavar='MILLIGRAMS', type=weight, default=False,
                         help='the batch weight (20002), or "none" to leave it out (default: the sum of the doses)')
     parser.add_argument('--name', default='book', help='the package\'s name (default: %(default)s)')
@@ -146,7 +166,7 @@ def arguments():
                         help='a header tag to leave out')
     options = parser.parse_args()
     if options.book is None:
-        parser.error('no book: give --book or --dose')
+        parser.error('no book: give --book, --dose or --lot')
     return options
 
 

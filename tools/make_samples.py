@@ -88,7 +88,7 @@ SAMPLES = {
 }
 
 def accepted(book, batch=None, signature=(), header=(), drop=(), payload=b'', first=None):
-    """A package that the reading accepts at edition 2: header entries by tag, with some changed, added or dropped.
+    """A package that the reading accepts at editions 2 and 3: header entries by tag, with some changed, added or dropped.
 
     The header's tags rise, but for one that stands first.
     """
@@ -126,6 +126,7 @@ def sum_of(book):
 
 
 DOSE = bytes.fromhex('86001B000004E2')
+LOT = bytes.fromhex('AA001B000004E2000112AB')
 
 
 def book(text):
@@ -163,6 +164,11 @@ READINGS = {
     'book_most_milligrams': book('86 001B 004C4B40'),
     'book_two_kinds': book('86 001B 000004E2 14 00000000 98 0001 00000001 0005'),
     'book_limit': accepted(DOSE * 585 + b'\0'),
+    'book_lot': accepted(LOT),
+    'book_lot_0': book('AA 001B 000004E2 00000000'),
+    'book_lot_most': book('AA 03E7 004C4B40 FFFFFFFF'),
+    'book_three_kinds': book('AA 001B 000004E2 000112AB 86 0001 00000001 98 000E 00000320 0005 02 0007 AA 001B 00000002 00000001'),
+    'book_lots_limit': accepted(LOT * 372 + bytes.fromhex('02 0007 00')),
     'check14_signature_1000': accepted(DOSE, signature={}, header={}).replace(struct.pack('>4I', 1000, 4, 0, 1), struct.pack('>4I', 999, 4, 0, 1), 1),
     'check14_20001': accepted(DOSE, drop=[20001]),
     'check14_20002': accepted(DOSE, drop=[20002]),
@@ -197,6 +203,11 @@ READINGS = {
     'check19_4097_bytes': accepted(DOSE * 585 + b'\0\0'),
     'check20_kind_96': book('96'),
     'check20_kind_80': book('80'),
+    'check20_kind_ba': book('BA 001B 000004E2 000112AB'),
+    'check21_lot_cut': book('AA 001B 000004E2 000112'),
+    'check22_lot_oxide': book('AA 03E8 000004E2 000112AB'),
+    'check22_lot_milligrams': book('AA 001B 004C4B41 000112AB'),
+    'check23_lot_sum': accepted(LOT, batch=1250 + 70315),
     'check21_kind_7f': book('7F'),
     'check21_date_cut': book('14 0000'),
     'check22_oxide_0': book('86 0000 000004E2'),

@@ -7,3 +7,4 @@ pub mod WeighLaws
 pub mod PassLaws
 pub mod RowLaws
 pub mod RowTheorems
+pub mod KindTheorems

@@ -3,3 +3,4 @@ pub mod Book
 pub mod Doses
 pub mod Rows
 pub mod RowTheorems
+pub mod KindTheorems

@@ -1,7 +1,8 @@
 -- Laws of lists of lines. A line of a list above a tag has a higher one (above); the rest of a rising list rises
 -- (rest-rises). Of the lines that an edition has: their tags rise (rises; of each part rises-signature, rises-header); a line
 -- of the catalogue is listed where the edition has it (listed-signature, listed-header); the edition has each (had-in), and
--- each is as a test of the part says (had); a later edition keeps them (kept).
+-- each is as a test of the part says (had); another edition that has one lists it (listed-had), and a later one keeps them
+-- (kept).
 use Prim.Native.Nat.{ℕ, zero, suc, _≤_, _<_, _-_}
 use mathlib.Core.Path.{_≡_, refl, sym, ap, subst}
 use mathlib.Core.Logic.{inl, inr}
@@ -105,8 +106,14 @@ pub had : (test : Line → Bool) (rows : List (List ℕ)) → every test rows �
     → (edition : ℕ) (line : Line) → Listed line (linesHad edition rows) → test line ≡ true
 had test rows t edition = each-had edition (λ (line : Line). test line ≡ true) rows (λ i h e. every-at test rows t i h)
 
+pub listed-had : (edition other : ℕ) (rows : List (List ℕ)) (line : Line) → Listed line (linesHad edition rows)
+    → inEdition other line ≡ true → Listed line (linesHad other rows)
+listed-had edition other rows =
+    each-had edition (λ (line : Line). inEdition other line ≡ true → Listed line (linesHad other rows)) rows
+    (λ i h e. listed-at other rows i h)
+
 pub kept : (edition later : ℕ) → edition ≤ later → (rows : List (List ℕ))
     → KeepsLines (linesHad edition rows) (linesHad later rows)
-kept edition later l rows =
-    each-had edition (λ (line : Line). Listed line (linesHad later rows)) rows
-    (λ i h e. listed-at later rows i h (omega (arith, leb-true, le-leb)))
+kept edition later l rows line h =
+    let k = leb-true (line .status) edition (had-in edition rows line h) in
+    listed-had edition later rows line h (le-leb (line .status) later (omega arith))

@@ -11,7 +11,7 @@ use Rattle.format.specs.Verdicts.{check, both}
 use Rattle.format.proofs.VerdictLaws.{both-fail, both-inverted, inverted}
 use Rattle.book.specs.Kinds.{isWeighed}
 use Rattle.book.specs.Book.{kindAt, recordCheck, recordsCheck}
-use Rattle.demands.specs.Demands.{First, NoneLacks, lacks, firstLacking}
+use Rattle.demands.specs.Editions.{First, NoneLacks, lacks, firstLacking}
 
 -- a kind that is lacked is not allowed, and any other is
 not-allowed : (w k : Bool) → (w && not k) ≡ true → cond w k true ≡ false

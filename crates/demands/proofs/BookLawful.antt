@@ -4,7 +4,6 @@ use mathlib.Core.Path.{_≡_}
 use mathlib.Core.Logic.{_↔_}
 use mathlib.Core.List.{List}
 use mathlib.Core.Bool.{Bool}
-use lib.ListN.{length}
 use Rattle.format.specs.declared.verdict.Verdict.the-variants.{Pass}
 use Rattle.book.specs.Book.{lengthCheck, bookCheck}
 use Rattle.book.specs.Doses.{doses, sumOf}

@@ -2,6 +2,8 @@ pub mod AgreementLaws
 pub mod BookAgreement
 pub mod LineAgreement
 pub mod EditionTheorems
+pub mod EditionInstances
+pub mod EditionRuns
 pub mod Demand1
 pub mod Demand3
 pub mod TagLawful

@@ -1,11 +1,9 @@
 -- Checks 14 and 15 pass exactly on lawful lines: lines-lawful.
-use Prim.Native.Nat.{ℕ, zero, suc, _+_, _≤_, _<_}
+use Prim.Native.Nat.{ℕ}
 use mathlib.Core.Path.{_≡_, refl, sym}
-use mathlib.Core.Logic.{_↔_, Iff·rfl, _≢_, ⊎-elim}
-use mathlib.Core.List.{List}
-use mathlib.Core.Bool.{Bool, true, and-eq-true-iff}
-use native.Mathlib.Omega.{arith}
-use native.Mathlib.Nat.{eq-or-lt-of-le}
+use mathlib.Core.Logic.{_↔_, Iff·rfl, _≢_, inl, inr, ⊎-elim}
+use mathlib.Core.List.{List, [], _∷_}
+use mathlib.Core.Bool.{true, and-eq-true-iff}
 use borrow.Author.Tests.{leb-true, le-leb}
 use Rattle.format.specs.declared.section.Section.{Section}
 use Rattle.format.specs.declared.records.IndexRecord.{IndexRecord}
@@ -14,11 +12,11 @@ use Rattle.index.specs.declared.Tagged.{Tagged}
 use Rattle.index.specs.declared.Tagged.the-variants.{Present, Absent}
 use Rattle.index.specs.Lookup.{taggedIn}
 use Rattle.catalogue.specs.declared.Line.{Line}
-use Rattle.catalogue.specs.Catalogue.{isAsLine, lineAt}
-use Rattle.lines.specs.Lines.{lineCheckAs, lineCheck, linesFrom, linesCheck}
+use Rattle.catalogue.specs.Catalogue.{isAsLine}
+use Rattle.lines.specs.Lines.{lineCheckAs, lineCheck, linesOf, linesCheck}
 use Rattle.reading.specs.Editions.{Edition}
-use Rattle.demands.specs.Lawful.{LawfulLine, LawfulLines}
-use Rattle.demands.proofs.PassIff.{last-iff, both-iff, eqb-iff, cond-iff, not-iff, given-iff}
+use Rattle.demands.specs.Lawful.{LawfulLine, LinesIn, LawfulLines}
+use Rattle.demands.proofs.PassIff.{last-iff, both-iff, eqb-iff, not-iff, given-iff}
 use Rattle.demands.proofs.TagLawful.{has-tag, where-present, where-absent, tagged-absent}
 use Rattle.demands.proofs.FoundLawful.{Apart}
 
@@ -55,23 +53,18 @@ module _ (s : List ℕ) (section : Section) (apart : Apart s section) where
   line-lawful : (line : Line) → (lineCheck (taggedIn s section) line ≡ Pass) ↔ LawfulLine s section line
   line-lawful line = line-found line (taggedIn s section (line .tag)) refl
 
-  -- n lines from number i on
-  from-lawful : (hasLine : Line → Bool) (n i : ℕ)
-      → (linesFrom lineAt hasLine (taggedIn s section) n i ≡ Pass)
-      ↔ ((j : ℕ) → i ≤ j → j < i + n → hasLine (lineAt j) ≡ true → LawfulLine s section (lineAt j))
-  unfolding linesFrom
-  from-lawful hasLine zero i = (λ h j l m. absurd (omega arith), λ h. refl)
-  from-lawful hasLine (suc n) i =
-      simp (both-iff, cond-iff, line-lawful, from-lawful hasLine n (i + 1)) (
-        λ h j l m. ⊎-elim (λ q. rw q at (h .0)) (λ k. h .1 j (omega arith) (omega arith)) (eq-or-lt-of-le l),
-        λ h. (h i (omega arith) (omega arith), λ j l m. h j (omega arith) (omega arith)),
+  listed-lawful : (lines : List Line) → (linesOf (taggedIn s section) lines ≡ Pass) ↔ LinesIn s section lines
+  unfolding linesOf
+  listed-lawful [] = (λ h line l. absurd l, λ h. refl)
+  listed-lawful (first ∷ rest) =
+      simp (both-iff, line-lawful, listed-lawful rest) (
+        λ h line. ⊎-elim (λ e. rw e (h .0)) (h .1 line),
+        λ h. (h first (inl refl), λ line l. h line (inr l)),
       )
 
 pub lines-lawful : (edition : Edition) (s : List ℕ) (signature header : Section) → Apart s signature → Apart s header
-    → (linesCheck (edition .hasLine) (taggedIn s signature) (taggedIn s header) ≡ Pass) ↔ LawfulLines edition s signature header
+    → (linesCheck (edition .signature) (edition .header) (taggedIn s signature) (taggedIn s header) ≡ Pass)
+    ↔ LawfulLines edition s signature header
 unfolding linesCheck
 lines-lawful edition s signature header apart apart′ =
-    simp (both-iff, from-lawful s signature apart, from-lawful s header apart′) (
-      λ h. (λ i l. h .0 i (omega arith) (omega arith), λ i l m. h .1 i (omega arith) (omega arith)),
-      λ h. (λ i l m. h .0 i (omega arith), λ i l m. h .1 i (omega arith) (omega arith)),
-    )
+    simp (both-iff, listed-lawful s signature apart, listed-lawful s header apart′) Iff·rfl

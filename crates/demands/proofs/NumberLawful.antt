@@ -1,12 +1,14 @@
--- Tags that the lines require are present: size-there, digest-there, states-there, batch-there; those of check 18 are strings:
--- text-lines. Checks 16 and 23, of the numbers that tags hold, pass exactly as the rules say: size-lawful,
--- batch-lawful.
+-- A tag has a line: has-line. Tags that the lines require are present: size-there, digest-there, states-there, locales-there,
+-- batch-there; those of check 18 are strings: text-lines. Checks 16 and 23, of the numbers that tags hold, pass exactly as the
+-- rules say: size-lawful, batch-lawful.
 use Prim.Native.Nat.{ℕ, _-_, _≤_, _<_}
 use mathlib.Core.Path.{_≡_, refl, sym, ap, _∙_}
-use mathlib.Core.Logic.{_↔_, Iff·rfl}
-use mathlib.Core.List.{List}
-use mathlib.Core.Bool.{true}
+use mathlib.Core.Logic.{_↔_, Iff·rfl, inl, inr, ⊎-elim}
+use mathlib.Core.List.{List, [], _∷_}
+use mathlib.Core.Bool.{Bool, true, false, _||_, false≢true}
+use lib.Dec.{eqb}
 use native.Mathlib.Omega.{arith}
+use borrow.Author.Tests.{eqb-true, eqb-false}
 use Rattle.be.specs.Numbers.{be32At}
 use Rattle.be.proofs.ByteLaws.{be32-part}
 use Rattle.format.specs.declared.section.Section.{Section}
@@ -20,19 +22,17 @@ use Rattle.index.specs.declared.Found.{Found}
 use Rattle.index.specs.Lookup.{taggedIn, entryAt, foundBytes}
 use Rattle.structure.specs.Structure.{sectionAt}
 use Rattle.catalogue.specs.declared.Line.{Line}
-use Rattle.catalogue.specs.Catalogue.{signatureLines, headerLines, catalogue, lineAt, inEdition}
+use Rattle.catalogue.specs.Catalogue.{signatureLines, headerLines, signatureCount, lineCount, catalogue, lineAt, inEdition}
+use Rattle.catalogue.proofs.ListLaws.{listed-signature, listed-header}
 use Rattle.rules.specs.Rules.{sizeTagCheck}
-use Rattle.reading.specs.Editions.{Edition, batchTag, batchLine, hasBatch}
+use Rattle.reading.specs.Editions.{Edition, hasLine, batchTag}
 use Rattle.reading.specs.Reading.{weightIn, sumCheck}
-use Rattle.demands.specs.Lawful.{HasTag, WhereTagged, HasCount, NumberIs}
+use Rattle.demands.specs.Lawful.{HasTag, WhereTagged, HasCount, NumberIs, HasLine}
 use Rattle.demands.specs.Lawful.{LawfulStructure, LawfulLine, LawfulLines}
+use Rattle.demands.specs.Editions.{IsEdition}
 use Rattle.demands.proofs.PassIff.{last-iff, eqb-iff, cond-iff}
 use Rattle.demands.proofs.FoundLawful.{Apart, number-iff, typed-found}
 use Rattle.demands.proofs.StructureLawful.{entry-sound}
-
--- an edition has the lines of edition 1
-abbrev pub Keeps : Edition → Type 0
-Keeps edition = (line : Line) → inEdition 1 line ≡ true → (edition .hasLine) line ≡ true
 
 -- the tags of check 18 as the catalogue has them
 abbrev pub OneString : List ℕ → Section → ℕ → Type 0
@@ -55,43 +55,62 @@ abbrev pub DigestLine : List ℕ → Section → Type 0
 DigestLine s signature =
     HasTag s signature 1004 × WhereTagged s signature 1004 (λ (e : IndexRecord). e .ty ≡ 7) × HasCount s signature 1004 16
 
--- by their numbers in the catalogue
-module _ (edition : Edition) (s : List ℕ) (signature header : Section)
-    (lines : LawfulLines edition s signature header) where
-  pub size-there : Keeps edition → HasTag s signature 1000
-  unfolding lineAt catalogue signatureLines headerLines
-  size-there keeps = lines .0 3 (omega arith) (keeps (lineAt 3) refl) .required (omega arith)
+-- a tag has a line by the test exactly where one is listed
+pub has-line : (tag : ℕ) (lines : List Line) → (hasLine tag lines ≡ true) ↔ HasLine tag lines
+unfolding hasLine
+has-line tag [] = (λ h. absurd (false≢true h), λ h. absurd (h .1))
+has-line tag (first ∷ rest) = go (eqb (first .tag) tag) refl (has-line tag rest)
+  where
+    go : (b : Bool) → eqb (first .tag) tag ≡ b → (hasLine tag rest ≡ true) ↔ HasLine tag rest
+        → ((b || hasLine tag rest) ≡ true) ↔ HasLine tag (first ∷ rest)
+    go true e behind = (λ h. (first, inl refl, eqb-true (first .tag) tag e), λ h. refl)
+    go false e behind = (
+      λ h. let k = behind .0 h in (k .0, inr (k .1), k .2),
+      λ (line, l, t). behind .1 (line, ⊎-elim (λ q. absurd (eqb-false (first .tag) tag e (rw q at t))) (λ m. m) l, t),
+    )
 
-  pub digest-there : Keeps edition → DigestLine s signature
+-- by their numbers in the catalogue
+module _ (edition : Edition) (is : IsEdition edition) (s : List ℕ) (signature header : Section)
+    (lines : LawfulLines edition s signature header) where
+  in-signature : (i : ℕ) → i < signatureCount → inEdition 1 (lineAt i) ≡ true → LawfulLine s signature (lineAt i)
+  in-signature i l h = lines .0 (lineAt i) (is .keepsFirst .signature (lineAt i) (listed-signature 1 i l h))
+
+  in-header : (i : ℕ) → signatureCount ≤ i → i < lineCount → inEdition 1 (lineAt i) ≡ true → LawfulLine s header (lineAt i)
+  in-header i l m h = lines .1 (lineAt i) (is .keepsFirst .header (lineAt i) (listed-header 1 i l m h))
+
+  pub size-there : HasTag s signature 1000
   unfolding lineAt catalogue signatureLines headerLines
-  digest-there keeps =
-      let k = lines .0 5 (omega arith) (keeps (lineAt 5) refl) in
+  size-there = in-signature 3 (omega arith) refl .required (omega arith)
+
+  pub digest-there : DigestLine s signature
+  unfolding lineAt catalogue signatureLines headerLines
+  digest-there =
+      let k = in-signature 5 (omega arith) refl in
       (k .required (omega arith), k .type′, k .count (λ e. omega arith))
 
-  pub states-there : Keeps edition → HasTag s header 1028
+  pub states-there : HasTag s header 1028
   unfolding lineAt catalogue signatureLines headerLines
-  states-there keeps = lines .1 34 (omega arith) (omega arith) (keeps (lineAt 34) refl) .required (omega arith)
+  states-there = in-header 34 (omega arith) (omega arith) refl .required (omega arith)
 
-  pub locales-there : Keeps edition → HasTag s header 100
+  pub locales-there : HasTag s header 100
   unfolding lineAt catalogue signatureLines headerLines
-  locales-there keeps = lines .1 13 (omega arith) (omega arith) (keeps (lineAt 13) refl) .required (omega arith)
+  locales-there = in-header 13 (omega arith) (omega arith) refl .required (omega arith)
 
-  pub batch-there : hasBatch edition ≡ true → BatchLine s header
-  unfolding lineAt catalogue signatureLines headerLines
-  batch-there h = let k = lines .1 batchLine (omega arith) (omega arith) h in (k .required (omega arith), k .type′)
+  pub batch-there : HasLine batchTag (edition .header) → BatchLine s header
+  batch-there (line, l, t) =
+      let k = rw (is .batch line l t) at (lines .1 line l) in
+      (k .required (omega arith), k .type′)
 
-  pub text-lines : Keeps edition → TextLines s header
+  pub text-lines : TextLines s header
   unfolding lineAt catalogue signatureLines headerLines
-  text-lines keeps =
-      let line : (i : ℕ) → 11 ≤ i → i < 82 → inEdition 1 (lineAt i) ≡ true → LawfulLine s header (lineAt i) =
-      λ i l m h. lines .1 i l m (keeps (lineAt i) h) in
+  text-lines =
       record {
-        system = let k = line 27 (omega arith) (omega arith) refl in (k .type′, k .count (λ e. omega arith));
-        preInstall = let k = line 57 (omega arith) (omega arith) refl in (k .type′, k .count (λ e. omega arith));
-        postInstall = let k = line 58 (omega arith) (omega arith) refl in (k .type′, k .count (λ e. omega arith));
-        preRemove = let k = line 59 (omega arith) (omega arith) refl in (k .type′, k .count (λ e. omega arith));
-        postRemove = let k = line 60 (omega arith) (omega arith) refl in (k .type′, k .count (λ e. omega arith));
-        directories = line 72 (omega arith) (omega arith) refl .type′;
+        system = let k = in-header 27 (omega arith) (omega arith) refl in (k .type′, k .count (λ e. omega arith));
+        preInstall = let k = in-header 57 (omega arith) (omega arith) refl in (k .type′, k .count (λ e. omega arith));
+        postInstall = let k = in-header 58 (omega arith) (omega arith) refl in (k .type′, k .count (λ e. omega arith));
+        preRemove = let k = in-header 59 (omega arith) (omega arith) refl in (k .type′, k .count (λ e. omega arith));
+        postRemove = let k = in-header 60 (omega arith) (omega arith) refl in (k .type′, k .count (λ e. omega arith));
+        directories = in-header 72 (omega arith) (omega arith) refl .type′;
       }
 
 -- 16
@@ -124,10 +143,10 @@ module _ (s : List ℕ) (start : ℕ) (lawful : LawfulStructure Header s start) 
     λ h. shown-number i l t (typed i l t) ∙ h i l t,
   )
 
-  pub batch-lawful : (edition : Edition) (sum : ℕ) → (hasBatch edition ≡ true → BatchLine s (sectionAt s start))
+  pub batch-lawful : (edition : Edition) (sum : ℕ) → (HasLine batchTag (edition .header) → BatchLine s (sectionAt s start))
       → (sumCheck edition s (sectionAt s start) sum ≡ Pass)
-      ↔ (hasBatch edition ≡ true → NumberIs s (sectionAt s start) batchTag sum)
+      ↔ (HasLine batchTag (edition .header) → NumberIs s (sectionAt s start) batchTag sum)
   unfolding sumCheck
   batch-lawful edition sum led =
-      simp (cond-iff, last-iff, eqb-iff)
+      simp (cond-iff, last-iff, eqb-iff, has-line)
       (λ h b. batch-number sum (led b) .0 (h b), λ h b. batch-number sum (led b) .1 (h b))

@@ -35,12 +35,14 @@ doses-stated form edition s before count h =
     let f = pass-is-row (isKnown edition) (known-hold edition) b .0 (pass-row edition s room (k .0)) in
     let hold = lawful-hold (isKnown edition) (known-hold edition) (f .0) (f .1 .bodies) (f .2) in
     let d = row-doses b (f .0) (f .1) hold in
-    let w = accepted-writes form edition s before count h in (
+    let w = accepted-writes form edition s before count h in
+    let stands : List Dose → List ℕ =
+    λ ds. cells form (numbersOf ds) ++ drop (length (cells form (numbersOf ds))) before in (
       f .0,
       record {
         isRow = f .1;
         only = λ other p. one-way b other (f .0) p (f .1);
         counted = w .0 ∙ ap length d;
-        buffer = w .1 ∙ ap (λ (ds : List Dose). cells form (numbersOf ds) ++ drop (length (cells form (numbersOf ds))) before) d;
+        buffer = w .1 ∙ ap stands d;
       },
     )

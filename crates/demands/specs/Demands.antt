@@ -1,27 +1,24 @@
 -- The letter's demands, as statements over the reading. Each is proved in proofs/ under its name in small letters.
-use Prim.Native.Nat.{ℕ, _≤_}
+use Prim.Native.Nat.{ℕ, _≤_, _<_}
 use mathlib.Core.Path.{_≡_}
 use mathlib.Core.Logic.{_⊎_, _↔_, _≢_}
-use mathlib.Core.List.{List, [], _∷_, _++_}
-use mathlib.Core.Bool.{Bool, true, false, cond, not, _&&_}
+use mathlib.Core.List.{List, [], _++_}
 use lib.ListN.{length, drop}
-use Rattle.format.specs.declared.verdict.Verdict.{Verdict}
-use Rattle.format.specs.declared.verdict.Verdict.the-variants.{Pass, Fail}
+use Rattle.format.specs.declared.verdict.Verdict.the-variants.{Pass}
 use Rattle.format.specs.declared.verdict.Answer.{Answer}
 use Rattle.format.specs.declared.verdict.Answer.the-variants.{Done, Refused}
 use Rattle.entries.specs.Entries.{recordAt}
 use Rattle.package.specs.Package.{soundCheck, structureOf}
 use Rattle.lookups.specs.Lookup.{findBytes, findAnswer}
 use Rattle.lookups.specs.Theorems.{RecordFor, Shows}
-use Rattle.catalogue.specs.Catalogue.{lineAt}
-use Rattle.book.specs.Kinds.{isWeighed}
-use Rattle.book.specs.Book.{kindAt, places}
+use Rattle.book.specs.Kinds.{lastEdition}
 use Rattle.book.specs.Doses.{doses}
 use Rattle.buffer.specs.Buffer.{numbersOf}
-use Rattle.reading.specs.Editions.{Edition, Extends, editionOf, batchTag, batchLine}
-use Rattle.reading.specs.Reading.{bookOf, needed, checksAt, readAnswer}
+use Rattle.reading.specs.Editions.{editionOf, batchTag}
+use Rattle.reading.specs.Reading.{bookOf, needed, readAnswer}
 use Rattle.reading.specs.Buffers.{Form, Numbers, Bytes, roomIn, cells, leftIn, ReadInto}
 use Rattle.demands.specs.Lawful.{SoundPackage, LawfulPackage}
+use Rattle.demands.specs.Editions.{First, NoneLacks, lackingIn}
 
 -- Demand 1: "A refused reading changes no number of the dose buffer; an accepted one writes its doses at the front and nothing
 -- behind them." (`readAnswer` is the number and place of the first check that fails, in document 01's order.)
@@ -44,7 +41,7 @@ AcceptedWrites =
 -- our book rules as document 01 fixes them." (The doses are those that the book's records state, in order: `doses`.)
 abbrev pub Demand2 : Type 0
 Demand2 =
-    (form : Form) (edition : ℕ) (s before : List ℕ) → 1 ≤ edition → edition ≤ 2
+    (form : Form) (edition : ℕ) (s before : List ℕ) → 1 ≤ edition → edition ≤ lastEdition
     → (readAnswer edition s (roomIn form before) ≡ Done (length (doses (bookOf s))))
     ↔ (LawfulPackage (editionOf edition) s × (needed (bookOf s) ≤ roomIn form before))
 
@@ -65,81 +62,47 @@ LookupHolds =
     → Shows s (structureOf s which) (recordAt s (structureOf s which) k) (findBytes s which tag ty)
     (findAnswer s which tag ty)
 
--- the records of a book whose weighed kind an edition lacks: the first of them, where there is one
-pub data Lacking : Type 0 where
-  First : ℕ → Lacking
-  NoneLacks : Lacking
-
-abbrev pub lacks : (ℕ → Bool) → ℕ → Bool
-lacks known kind = isWeighed kind && not (known kind)
-
-unfoldable pub firstLacking : (ℕ → Bool) → List ℕ → List ℕ → Lacking
-firstLacking known b [] = NoneLacks
-firstLacking known b (at ∷ rest) = cond (lacks known (kindAt b at)) (First at) (firstLacking known b rest)
-
-abbrev pub lackingIn : Edition → List ℕ → Lacking
-lackingIn edition b = firstLacking (edition .known) b (places b)
-
--- Demand 3 in general: an earlier and a later edition that extends it. A line that the later edition adds:
-pub record Adds (earlier later : Edition) (i : ℕ) : Type 0 where
-  pub without : (earlier .hasLine) (lineAt i) ≡ false
-  pub with′ : (later .hasLine) (lineAt i) ≡ true
-
--- a refusal that an added line explains: 14 or 15 with its tag as the place, or 23 with 20002 where that line is added
-abbrev pub ByAdded : Edition → Edition → Verdict → Type 0
-ByAdded earlier later v =
-    ((i : ℕ) × Adds earlier later i × ((v ≡ Fail 14 (lineAt i .tag)) ⊎ (v ≡ Fail 15 (lineAt i .tag))))
-    ⊎ (Adds earlier later batchLine × (v ≡ Fail 23 batchTag))
-
--- how the two verdicts on one package, with one room, relate
-pub record VerdictsAgree (earlier later : Edition) (s : List ℕ) (room : ℕ) : Type 0 where
-  pub acceptedLacks : (place : ℕ) → checksAt later s room ≡ Pass → lackingIn earlier (bookOf s) ≡ First place
-      → checksAt earlier s room ≡ Fail 20 place
-  pub acceptedBoth : checksAt later s room ≡ Pass → lackingIn earlier (bookOf s) ≡ NoneLacks → checksAt earlier s room ≡ Pass
-  pub laterRefuses : (number place : ℕ) → checksAt earlier s room ≡ Pass → checksAt later s room ≡ Fail number place
-      → ByAdded earlier later (checksAt later s room)
-  pub bothRefuse : (number place number′ place′ : ℕ) → checksAt earlier s room ≡ Fail number place
-      → checksAt later s room ≡ Fail number′ place′
-      → (checksAt earlier s room ≡ checksAt later s room) ⊎ (number ≡ 20) ⊎ ByAdded earlier later (checksAt later s room)
-
-abbrev pub ExtendingAgrees : Type 0
-ExtendingAgrees = (earlier later : Edition) → Extends earlier later → (s : List ℕ) (room : ℕ) → VerdictsAgree earlier later s room
-
--- a refusal that the later edition's batch weight explains: "14, 15 or 23, and its place is the batch-weight tag 20002"
+-- a refusal that the batch weight explains: "14, 15 or 23, and its place is the batch-weight tag 20002"
 abbrev pub ByBatch : Answer → Type 0
 ByBatch answer = (answer ≡ Refused 14 batchTag) ⊎ (answer ≡ Refused 15 batchTag) ⊎ (answer ≡ Refused 23 batchTag)
 
--- Demand 3: two readings of one package, at edition 1 and at edition 2, into buffers of their own that held the same numbers
--- beforehand: what the two answer, and what they leave in the buffers
-pub record EditionsAgree (s : List ℕ) (first second : Answer) (after after′ : List ℕ) : Type 0 where
-  -- if edition 2 accepts, edition 1 refuses exactly when the book holds a weighed kind that edition 1 lacks, with number
-  -- 20 and the place of the first such record
-  pub acceptedLacks : (count place : ℕ) → second ≡ Done count → lackingIn (editionOf 1) (bookOf s) ≡ First place
+-- Demand 3 of two readings of one package, at an earlier edition and at a later, by their numbers, into buffers of their own
+-- that held the same numbers beforehand: what the two answer, and what they leave in the buffers
+pub record PairAgrees (earlier later : ℕ) (s : List ℕ) (first second : Answer) (after after′ : List ℕ) : Type 0 where
+  -- if the later accepts, the earlier refuses exactly when the book holds a weighed kind that it lacks, with number 20 and
+  -- the place of the first such record
+  pub acceptedLacks : (count place : ℕ) → second ≡ Done count → lackingIn (editionOf earlier) (bookOf s) ≡ First place
       → first ≡ Refused 20 place
-  -- if the book holds none, edition 1 accepts with the same dose count and doses, and the two buffers end equal
-  pub acceptedBoth : (count : ℕ) → second ≡ Done count → lackingIn (editionOf 1) (bookOf s) ≡ NoneLacks
+  -- if the book holds none, the earlier accepts with the same dose count and doses, and the two buffers end equal
+  pub acceptedBoth : (count : ℕ) → second ≡ Done count → lackingIn (editionOf earlier) (bookOf s) ≡ NoneLacks
       → (first ≡ Done count) × (after ≡ after′)
-  -- if edition 1 accepts and edition 2 refuses, the refusal is 14, 15 or 23, and its place is 20002
-  pub laterRefuses : (count number place : ℕ) → first ≡ Done count → second ≡ Refused number place → ByBatch second
-  -- if both refuse, number and place agree, unless edition 1 gives 20, or edition 2 gives 14, 15 or 23 with that tag
+  -- if the earlier accepts and the later refuses, the earlier is edition 1, the refusal is 14, 15 or 23, and its place is 20002
+  pub laterRefuses : (count number place : ℕ) → first ≡ Done count → second ≡ Refused number place
+      → (earlier ≡ 1) × ByBatch second
+  -- if both refuse, number and place agree, unless the earlier gives 20, or the earlier is edition 1 and the later gives 14,
+  -- 15 or 23 with that tag
   pub bothRefuse : (number place number′ place′ : ℕ) → first ≡ Refused number place → second ≡ Refused number′ place′
-      → (first ≡ second) ⊎ (number ≡ 20) ⊎ ByBatch second
+      → (first ≡ second) ⊎ (number ≡ 20) ⊎ ((earlier ≡ 1) × ByBatch second)
 
+-- for every earlier and later edition
 abbrev pub Demand3 : Type 0
 Demand3 =
-    (form : Form) (s before : List ℕ)
-    → EditionsAgree s (readAnswer 1 s (roomIn form before)) (readAnswer 2 s (roomIn form before)) (leftIn form 1 s before)
-    (leftIn form 2 s before)
+    (form : Form) (earlier later : ℕ) → 1 ≤ earlier → earlier < later → later ≤ lastEdition → (s before : List ℕ)
+    → PairAgrees earlier later s (readAnswer earlier s (roomIn form before)) (readAnswer later s (roomIn form before))
+    (leftIn form earlier s before) (leftIn form later s before)
 
--- Demand 3 of a call that reads at both editions
-pub record ReadBothInto (form : Form) (s before before′ : List ℕ) (first second : Answer) (after after′ : List ℕ) : Type 0
+-- Demand 3 of a call that reads at two editions, by any two numbers: each reading is that at its edition, and where the first
+-- is the earlier of two known editions, and the buffers held the same, the two agree
+pub record ReadBothInto (form : Form) (earlier later : ℕ) (s before before′ : List ℕ) (first second : Answer)
+    (after after′ : List ℕ) : Type 0
   where
-    pub atFirst : ReadInto form 1 s before first after
-    pub atSecond : ReadInto form 2 s before′ second after′
-    pub agree : before ≡ before′ → EditionsAgree s first second after after′
+    pub atFirst : ReadInto form earlier s before first after
+    pub atSecond : ReadInto form later s before′ second after′
+    pub agree : 1 ≤ earlier → earlier < later → later ≤ lastEdition → before ≡ before′
+        → PairAgrees earlier later s first second after after′
 
-abbrev pub ReadBoth : List ℕ → List ℕ → List ℕ → Answer → Answer → List ℕ → List ℕ → Type 0
+abbrev pub ReadBoth : ℕ → ℕ → List ℕ → List ℕ → List ℕ → Answer → Answer → List ℕ → List ℕ → Type 0
 ReadBoth = ReadBothInto Numbers
 
-abbrev pub ReadBothBytes : List ℕ → List ℕ → List ℕ → Answer → Answer → List ℕ → List ℕ → Type 0
+abbrev pub ReadBothBytes : ℕ → ℕ → List ℕ → List ℕ → List ℕ → Answer → Answer → List ℕ → List ℕ → Type 0
 ReadBothBytes = ReadBothInto Bytes

@@ -1,4 +1,4 @@
--- What document 01, as requests 2, 3 and 5 amend it, says a right package is, section by section: no order and no numbers of checks.
+-- What document 01, as requests 2, 3, 5 and 7 amend it, says a right package is, section by section: no order and no numbers of checks.
 use Prim.Native.Nat.{ℕ, zero, suc, _+_, _-_, _*_, _%_, _≤_, _<_}
 use mathlib.Core.Path.{_≡_}
 use mathlib.Core.Logic.{_⊎_, _≢_}
@@ -21,13 +21,14 @@ use Rattle.entries.specs.Entries.{recordAt}
 use Rattle.structure.specs.Structure.{sectionAt}
 use Rattle.structure.specs.Sound.{SoundHeader}
 use Rattle.catalogue.specs.declared.Line.{Line}
-use Rattle.catalogue.specs.Catalogue.{lineAt, signatureCount, lineCount}
+use Rattle.catalogue.specs.Lists.{Listed}
 use Rattle.files.specs.Files.{fileTags}
 use Rattle.texts.specs.Texts.{linux, binSh}
 use Rattle.md5.specs.Md5.{digest}
+use Rattle.book.specs.Kinds.{knows}
 use Rattle.book.specs.Book.{bookLimit}
 use Rattle.book.specs.Rows.{BookRecord, IsRow, statedSum, LawfulRow}
-use Rattle.reading.specs.Editions.{Edition, batchTag, hasBatch}
+use Rattle.reading.specs.Editions.{Edition, batchTag}
 use Rattle.reading.specs.Reading.{bookIn}
 
 -- "Lead": bytes 0-3 are ED AB EE DB; 4 is 3; 5 is 0; 6-7 (type) are 0; 10-75 (name) hold at least one zero byte; 76-77
@@ -91,11 +92,12 @@ pub record LawfulLine (s : List ℕ) (section : Section) (line : Line) : Type 0 
   pub type′ : WhereTagged s section (line .tag) (λ (e : IndexRecord). e .ty ≡ line .ty)
   pub count : line .count ≢ 0 → HasCount s section (line .tag) (line .count)
 
+-- every line that an edition has for a structure
+abbrev pub LinesIn : List ℕ → Section → List Line → Type 0
+LinesIn s section lines = (line : Line) → Listed line lines → LawfulLine s section line
+
 abbrev pub LawfulLines : Edition → List ℕ → Section → Section → Type 0
-LawfulLines edition s signature header =
-    ((i : ℕ) → i < signatureCount → (edition .hasLine) (lineAt i) ≡ true → LawfulLine s signature (lineAt i))
-    × ((i : ℕ) → signatureCount ≤ i → i < lineCount → (edition .hasLine) (lineAt i) ≡ true
-    → LawfulLine s header (lineAt i))
+LawfulLines edition s signature header = LinesIn s signature (edition .signature) × LinesIn s header (edition .header)
 
 -- "Groups": one tag needs another
 abbrev pub Needs : List ℕ → Section → ℕ → ℕ → Type 0
@@ -219,6 +221,10 @@ pub record SoundPackage (s : List ℕ) : Type 0 where
   pub gap : ZeroBetween s (sectionEnd (sectionAt s leadSize)) H
   pub header : LawfulStructure Header s H
 
+-- a tag has a line
+abbrev pub HasLine : ℕ → List Line → Type 0
+HasLine tag lines = (line : Line) × Listed line lines × (line .tag ≡ tag)
+
 -- a right package at an edition
 pub record LawfulPackage (edition : Edition) (s : List ℕ) : Type 0 where
   pub sound : SoundPackage s
@@ -229,6 +235,6 @@ pub record LawfulPackage (edition : Edition) (s : List ℕ) : Type 0 where
   pub texts : LawfulTexts s (sectionAt s (sound .H))
   -- the signature's 1004 is the MD5 of the bytes from H to the package's end
   pub digested : DataIs s (sectionAt s leadSize) 1004 (digest (drop (sound .H) s))
-  pub book : LawfulBook (edition .known) (bookIn s (sectionAt s (sound .H)))
+  pub book : LawfulBook (knows (edition .kinds)) (bookIn s (sectionAt s (sound .H)))
   -- where the edition has the batch weight's line, the sum of what the book's records state equals its value
-  pub batch : hasBatch edition ≡ true → NumberIs s (sectionAt s (sound .H)) batchTag (statedSum (book .row))
+  pub batch : HasLine batchTag (edition .header) → NumberIs s (sectionAt s (sound .H)) batchTag (statedSum (book .row))

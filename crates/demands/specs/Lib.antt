@@ -1,3 +1,4 @@
+pub mod Editions
 pub mod Demands
 pub mod Lawful
 pub mod Rows

@@ -1,20 +1,24 @@
--- What an answer says of the verdict and of the buffer's room.
+-- What an answer says of the verdict and of the buffer's room: done, refused, pass-book, pass-room, answer-room. At a known
+-- edition the reading is its checks from 2 on: known-edition, at-known.
 use Prim.Native.Nat.{ℕ, _*_, _≤_}
 use mathlib.Core.Path.{_≡_, refl, sym, _∙_}
 use mathlib.Core.List.{List}
 use lib.ListN.{length}
 use native.Mathlib.Omega.{arith}
-use borrow.Author.Tests.{leb-true}
+use borrow.Author.Tests.{le-leb, leb-true}
 use Rattle.format.specs.declared.verdict.Verdict.{Verdict}
 use Rattle.format.specs.declared.verdict.Verdict.the-variants.{Pass, Fail}
 use Rattle.format.specs.declared.verdict.Answer.{Answer}
 use Rattle.format.specs.declared.verdict.Answer.the-variants.{Done, Refused}
-use Rattle.format.proofs.VerdictLaws.{inverted, both-inverted}
+use Rattle.format.specs.Verdicts.{check}
+use Rattle.format.proofs.VerdictLaws.{both-pass, inverted, both-inverted}
 use Rattle.package.specs.Package.{headerAt}
+use Rattle.book.specs.Kinds.{lastEdition}
 use Rattle.book.specs.Doses.{doses}
 use Rattle.buffer.specs.Buffer.{numbersPerDose}
 use Rattle.reading.specs.Editions.{Edition, editionOf}
-use Rattle.reading.specs.Reading.{bookOf, needed, roomCheck, bookPart, openedCheck, checksAt, readingCheck, answerAs, readAnswer}
+use Rattle.reading.specs.Reading.{editionCheck, bookOf, needed, roomCheck, bookPart, openedCheck, checksAt, readingCheck}
+use Rattle.reading.specs.Reading.{answerAs, readAnswer}
 
 pub done : (v : Verdict) (count : ℕ) {n : ℕ} → answerAs v count ≡ Done n → (v ≡ Pass) × (n ≡ count)
 done Pass count h = (refl, cc)
@@ -23,6 +27,15 @@ done (Fail number place) count h = let z : _≡_ {A = ℕ} 0 1 = cc in absurd (o
 pub refused : (v : Verdict) (count : ℕ) {n p : ℕ} → answerAs v count ≡ Refused n p → v ≡ Fail n p
 refused Pass count h = let z : _≡_ {A = ℕ} 0 1 = cc in absurd (omega arith)
 refused (Fail number place) count h = cc
+
+module _ (edition : ℕ) (l : 1 ≤ edition) (m : edition ≤ lastEdition) where
+  pub known-edition : editionCheck edition ≡ Pass
+  unfolding editionCheck check
+  known-edition = rw (le-leb 1 edition l, le-leb edition lastEdition m)
+
+  pub at-known : (s : List ℕ) (room : ℕ) → readingCheck edition s room ≡ checksAt (editionOf edition) s room
+  unfolding readingCheck
+  at-known s room = both-pass known-edition
 
 -- where all checks pass, so do those of the book
 pub pass-book : (edition : Edition) (s : List ℕ) (room : ℕ) → checksAt edition s room ≡ Pass

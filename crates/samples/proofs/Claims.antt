@@ -1,4 +1,4 @@
--- The samples marked P, those of requests 2, 3 and 5 and of check 13, and the smallest package that is written, by computation.
+-- The samples marked P, those of requests 2, 3, 5 and 7 and of check 13, and the smallest package that is written, by computation.
 use lib.Dec.{T}
 use Rattle.be.specs.Numbers.{be16At, be32At}
 use Rattle.be.specs.Bytes.{sameBytes}
@@ -14,9 +14,9 @@ use Rattle.gap.specs.Gap.{zeroCheck, gapCheck}
 use Rattle.package.specs.Lead.{leadCheck}
 use Rattle.package.specs.Package.{sizeCheck, structuresCheck, packageCheck}
 use Rattle.locales.specs.Locales.{localeCheck}
-use Rattle.book.specs.Kinds.{isKnown}
-use Rattle.book.specs.Book.{placesFrom, doseLawful, recordCheck, recordsCheck, lengthCheck, bookCheck}
-use Rattle.book.specs.Doses.{dosesOf}
+use Rattle.book.specs.Kinds.{kindTable, kindsIn}
+use Rattle.book.specs.Book.{placesFrom, lotFrom, doseLawful, recordCheck, recordsCheck, lengthCheck, bookCheck}
+use Rattle.book.specs.Doses.{dosesBy}
 use Rattle.buffer.specs.Buffer.{numbersOf}
 use Rattle.words.specs.Words.{wordAt, lowFirst, rotated, auxiliary, increased}
 use Rattle.rounds.specs.Table.{table}
@@ -30,7 +30,8 @@ use Rattle.samples.specs.Written.{smallestRight}
 
 pub samples-right : T (allRight samples)
 unfolding be16At be32At sameBytes stringsFrom check both runFrom elementSize countRight dataEnd tagBefore entryCheck headerCheck
-    structureCheck localeCheck isKnown placesFrom doseLawful recordCheck recordsCheck lengthCheck bookCheck dosesOf numbersOf
+    structureCheck localeCheck kindTable kindsIn placesFrom lotFrom doseLawful recordCheck recordsCheck lengthCheck bookCheck
+    dosesBy numbersOf
     findFrom wordAt lowFirst rotated auxiliary increased table assigned operated operations performed block blocks paddingBytes
     lengthBytes padded start output digest digestCheck bytesOf tagAmong repeatedIn repeatedAmong firstFrom
     zeroCheck gapCheck leadCheck sizeCheck structuresCheck packageCheck

@@ -1,7 +1,7 @@
--- Document 01, "Bench samples", P books: a book at an edition, the verdict of checks 19 to 22, and the doses of one that
--- passed, oxide then milligrams.
+-- Document 01, "Bench samples", P books, and books with lots (request 7): a book at an edition, the verdict of checks 19 to 22,
+-- and the doses of one that passed, oxide, milligrams, lot.
 use Prim.Native.Nat.{ℕ}
-use mathlib.Core.List.{List, [], _∷_}
+use mathlib.Core.List.{List, [], _∷_, _++_}
 use mathlib.Core.Bool.{Bool, _&&_}
 use Rattle.be.specs.Bytes.{sameBytes}
 use Rattle.format.specs.declared.verdict.Verdict.{Verdict}
@@ -32,18 +32,44 @@ toleranced = 0x98 ∷ 0x00 ∷ 0x1B ∷ 0x00 ∷ 0x00 ∷ 0x04 ∷ 0xE2 ∷ 0x00
 abbrev pub cutShort : List ℕ
 cutShort = 0x14 ∷ 0x00 ∷ 0x00 ∷ []
 
+-- kind AA with lot 0, with the highest lot, and one byte short; behind a kind 86, and before one
+abbrev pub noLot : List ℕ
+noLot = 0xAA ∷ 0x00 ∷ 0x1B ∷ 0x00 ∷ 0x00 ∷ 0x04 ∷ 0xE2 ∷ 0x00 ∷ 0x00 ∷ 0x00 ∷ 0x00 ∷ []
+
+abbrev pub highestLot : List ℕ
+highestLot = 0xAA ∷ 0x00 ∷ 0x1B ∷ 0x00 ∷ 0x00 ∷ 0x04 ∷ 0xE2 ∷ 0xFF ∷ 0xFF ∷ 0xFF ∷ 0xFF ∷ []
+
+abbrev pub lotCut : List ℕ
+lotCut = 0xAA ∷ 0x00 ∷ 0x1B ∷ 0x00 ∷ 0x00 ∷ 0x04 ∷ 0xE2 ∷ 0x00 ∷ 0x00 ∷ 0x00 ∷ []
+
+abbrev pub lotBehind : List ℕ
+lotBehind = heaviest ++ highestLot
+
+abbrev pub lotBefore : List ℕ
+lotBefore = highestLot ++ toleranced ++ heaviest
+
 abbrev pub books : List BookSample
 books =
-    record { edition = 2; bytes = heaviest; verdict = Pass; doses = 27 ∷ 5000000 ∷ [] }
+    record { edition = 2; bytes = heaviest; verdict = Pass; doses = 27 ∷ 5000000 ∷ 0 ∷ [] }
     ∷ record { edition = 2; bytes = tooHeavy; verdict = Fail 22 0; doses = [] }
     ∷ record { edition = 1; bytes = toleranced; verdict = Fail 20 0; doses = [] }
-    ∷ record { edition = 2; bytes = toleranced; verdict = Pass; doses = 27 ∷ 1250 ∷ [] }
+    ∷ record { edition = 2; bytes = toleranced; verdict = Pass; doses = 27 ∷ 1250 ∷ 0 ∷ [] }
     ∷ record { edition = 1; bytes = cutShort; verdict = Fail 21 0; doses = [] }
     ∷ record { edition = 2; bytes = cutShort; verdict = Fail 21 0; doses = [] }
     ∷ record { edition = 2; bytes = 0x96 ∷ []; verdict = Fail 20 0; doses = [] }
     ∷ record { edition = 2; bytes = 0x7F ∷ []; verdict = Fail 21 0; doses = [] }
     ∷ record { edition = 2; bytes = 0x80 ∷ []; verdict = Fail 20 0; doses = [] }
     ∷ record { edition = 2; bytes = 0x00 ∷ []; verdict = Pass; doses = [] }
+    ∷ record { edition = 3; bytes = heaviest; verdict = Pass; doses = 27 ∷ 5000000 ∷ 0 ∷ [] }
+    ∷ record { edition = 3; bytes = toleranced; verdict = Pass; doses = 27 ∷ 1250 ∷ 0 ∷ [] }
+    ∷ record { edition = 3; bytes = noLot; verdict = Pass; doses = 27 ∷ 1250 ∷ 0 ∷ [] }
+    ∷ record { edition = 3; bytes = highestLot; verdict = Pass; doses = 27 ∷ 1250 ∷ 4294967295 ∷ [] }
+    ∷ record { edition = 1; bytes = lotBehind; verdict = Fail 20 7; doses = [] }
+    ∷ record { edition = 2; bytes = lotBehind; verdict = Fail 20 7; doses = [] }
+    ∷ record { edition = 3; bytes = lotBehind; verdict = Pass; doses = 27 ∷ 5000000 ∷ 0 ∷ 27 ∷ 1250 ∷ 4294967295 ∷ [] }
+    ∷ record { edition = 3; bytes = lotBefore; verdict = Pass;
+        doses = 27 ∷ 1250 ∷ 4294967295 ∷ 27 ∷ 1250 ∷ 0 ∷ 27 ∷ 5000000 ∷ 0 ∷ [] }
+    ∷ record { edition = 3; bytes = lotCut; verdict = Fail 21 0; doses = [] }
     ∷ []
 
 -- a refused book gives no doses

@@ -148,11 +148,33 @@ fn books() {
     read(b"book_example", 1);
     read(b"book_example", 2);
     read(b"book_example", 3);
+    read(b"book_example", 4);
     read(b"book_no_doses", 2);
     read(b"book_most_milligrams", 2);
     read(b"book_two_kinds", 1);
     read(b"book_two_kinds", 2);
     read(b"book_limit", 2);
+}
+
+// Request 7: books with lots, and edition 3.
+fn lots() {
+    read(b"book_lot", 1);
+    read(b"book_lot", 2);
+    read(b"book_lot", 3);
+    read(b"book_lot_0", 3);
+    read(b"book_lot_most", 3);
+    read(b"book_two_kinds", 3);
+    read(b"book_three_kinds", 1);
+    read(b"book_three_kinds", 2);
+    read(b"book_three_kinds", 3);
+    read(b"book_lots_limit", 3);
+    read(b"check14_20002", 3);
+    read(b"check15_20002_type", 3);
+    read(b"check20_kind_ba", 3);
+    read(b"check21_lot_cut", 3);
+    read(b"check22_lot_oxide", 3);
+    read(b"check22_lot_milligrams", 3);
+    read(b"check23_lot_sum", 3);
 }
 
 fn rules() {
@@ -231,6 +253,7 @@ fn main() {
     records();
     translated();
     books();
+    lots();
     rules();
     locales();
     digests();

@@ -20,9 +20,6 @@ enum-known-answer c = search needs
 cast-used : tie.Need-cast-used
 cast-used c = search needs
 
-cast-used-2 : tie.Need-cast-used-2
-cast-used-2 c = search needs
-
 mul-used : tie.Need-mul-used
 mul-used c = search needs
 
@@ -59,7 +56,6 @@ put-package-spec =
     read-requires
     enum-known-answer
     cast-used
-    cast-used-2
     mul-used
     array-share-prefix-doses
     slice-aggregate-put-book
