@@ -126,6 +126,9 @@ lot lot_most.rpm 7 "0 at 3: 1 100 0 999 5000000 4294967295 1 100 0" \
 lot lot_weight.rpm 0 "23 at 20002: " --book "AA 001B 000004E2 000112AB" --weight 71565
 lot lot_cut.rpm 0 "21 at 0: " --book "AA 001B 000004E2 000112" --weight 1250
 each lot_no_weight.rpm "20 at 0: " "14 at 20002: " "14 at 20002: " --book "AA 001B 000004E2 000112AB" --weight none
+lot lot_option.rpm 0 "0 at 1: 27 1250 70315" --lot 27:1250:70315
+cmp "$out/lot_option.rpm" "$out/lot.rpm"
+lot lots.rpm 7 "0 at 3: 1 100 0 27 1250 0 27 1 4294967295" --dose 1:100 --lot 27:1250:0 --lot 27:1:4294967295
 make kind_ba.rpm "20 at 0: " "20 at 0: " --book "BA 001B 000004E2 000112AB" --weight 0
 make dose_first.rpm "20 at 7: " "0 at 2: 1 100 0 27 1250 0" --dose 1:100 --book "98 001B 000004E2 0005"
 # rpm takes a tag of 2^32 - 1 for -1
@@ -162,10 +165,17 @@ stops "two whole numbers" --dose 27:1,250
 stops "two whole numbers" --dose 27:1.25
 stops "two whole numbers" --dose 27:-5
 stops "two whole numbers" --dose 27:1250:5
+stops "three whole numbers" --lot 27:1250
+stops "three whole numbers" --lot 27:1250:-5
+stops "three whole numbers" --lot 27:1250:0x5
+stops "three whole numbers" --lot 27:1250:5:5
 stops "oxide 0 is not" --dose 0:5
 stops "oxide 1000 is not" --dose 1000:5
 stops "0 milligrams are not" --dose 27:0
 stops "5000001 milligrams are not" --dose 27:5000001
+stops "oxide 1000 is not" --lot 1000:5:1
+stops "5000001 milligrams are not" --lot 27:5000001:1
+stops "lot 4294967296 is not" --lot 27:1250:4294967296
 stops "--book" --book 1G
 stops "give --weight" --book 96
 stops "give --weight" --book "86 00"
