@@ -30,7 +30,7 @@
  *           station_digest: done                         16
  *           station_meets: the version was compared      1 if it meets what is
  *                                                        required, else 0
- *    1      the edition is neither 1 nor 2               0
+ *    1      the edition is none of 1 to 3                0
  *    2      the package is longer than 65,536 bytes      0
  *    3      it is shorter than a lead, 96 bytes          its length
  *    4      a field of the lead is wrong                 that field's offset
@@ -71,9 +71,9 @@
  *   22      an oxide is not 1 to 999, or milligrams are  the same
  *           not 1 to 5,000,000
  *   23      the doses' sum is not the batch weight       20002
- *           (20002); edition 2 only
- *   24      the dose buffer is too short                 how many numbers are
- *                                                        needed: two per dose
+ *           (20002); from edition 2 on
+ *   24      the dose buffer has room for fewer than      how many numbers are
+ *           three numbers per dose                       needed: three per dose
  *   25      look-ups: no record has that tag and that    0
  *           type; station_meets: the package does not
  *           say what it requires of that name
@@ -121,7 +121,7 @@ extern "C" {
 #define STATION_PLACE(answer) ((uint32_t)(answer))
 
 /* Bytes of a dose in the dose buffer, and of room for any book's doses. */
-#define STATION_DOSE_BYTES 8
+#define STATION_DOSE_BYTES 12
 #define STATION_DOSES_ROOM (585 * STATION_DOSE_BYTES)
 
 /* Bytes of an entry in a list, and of room for any package that can be written. */
@@ -139,7 +139,7 @@ extern "C" {
 /*
  * Which doses does the book state?
  *
- *   edition               1 or 2, the rules to read by; any other is refused (1)
+ *   edition               1, 2 or 3, the rules to read by; any other is refused (1)
  *   package, package_len  the lent package
  *   doses, doses_len      the lent dose buffer; its length is in bytes
  *
@@ -147,11 +147,17 @@ extern "C" {
  * left over at its end are not used.
  *
  * On success the number is 0 and the place is how many doses the book states. They
- * stand at the buffer's front in the book's order, oxide (1 to 999), then
- * milligrams (1 to 5,000,000); the bytes behind them stay as they were. A book may
- * state none. Any other number leaves every byte of the buffer as it was; nothing
- * is written before all checks have passed. STATION_DOSES_ROOM bytes are enough for
- * every book; with less, a book of more doses is refused (24).
+ * stand at the buffer's front in the book's order, three numbers each, 12 bytes
+ * (STATION_DOSE_BYTES): oxide (1 to 999), milligrams (1 to 5,000,000), lot (any number;
+ * 0 where the book states no lot), at every edition. 1,250 mg of oxide 27, lot 70315:
+ *
+ *                oxide        milligrams   lot
+ *   doses        00 00 00 1B  00 00 04 E2  00 01 12 AB
+ *
+ * The bytes behind the doses stay as they were. A book may state none. Any other
+ * number leaves every byte of the buffer as it was; nothing is written before all
+ * checks have passed. STATION_DOSES_ROOM bytes are enough for every book; with less, a
+ * book of more doses is refused (24).
  *
  * A package that was damaged on the way, be it by one bit of the book, which is part of
  * the header, or of the payload, is refused (27), if no check before that fails. This is
@@ -160,7 +166,8 @@ extern "C" {
  *
  * Edition 2 knows all that edition 1 does, a date record and a dose with a
  * tolerance besides, and asks for the batch weight (20002), which must be the sum
- * of the milligrams. An edition skips remarks that it does not know. A weighed
+ * of the milligrams. Edition 3 keeps all of edition 2, the batch weight too, and knows
+ * a dose with a lot. An edition skips remarks that it does not know. A weighed
  * record that it does not know is refused (20), never skipped.
  */
 uint64_t station_read(uint32_t edition, const uint8_t *package, size_t package_len,

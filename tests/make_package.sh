@@ -11,25 +11,47 @@ command -v rpm > /dev/null || echo "make_package: no rpm here"
 # reads FILE EDITION ANSWER
 reads() {
     right=$(printf 'reference %s\nlibrary   %s' "$3" "$3")
-    said=$(target/host/compare read "$out/$1" "$2" 4680)
+    said=$(target/host/compare read "$out/$1" "$2" 7020)
     [ "$said" = "$right" ] || {
         printf 'make_package: %s at edition %s:\n%s\nexpected:\n%s\n' "$1" "$2" "$said" "$right" >&2
         exit 1
     }
 }
 
-# ours FILE ANSWER-1 ANSWER-2 OPTION...: a package for the station alone
-ours() {
-    file=$1 one=$2 two=$3
-    shift 3
+# each FILE ANSWER-1 ANSWER-2 ANSWER-3 OPTION...: a package for the station alone, at each edition
+each() {
+    file=$1 one=$2 two=$3 three=$4
+    shift 4
     python3 tools/make_package.py "$@" "$out/$file" > /dev/null
     reads "$file" 1 "$one"
     reads "$file" 2 "$two"
+    reads "$file" 3 "$three"
+}
+
+# ours FILE ANSWER-1 ANSWER-2 OPTION...: the same where edition 3 answers as edition 2 does
+ours() {
+    file=$1 one=$2 two=$3
+    shift 3
+    each "$file" "$one" "$two" "$two" "$@"
 }
 
 # make FILE ANSWER-1 ANSWER-2 OPTION...: one that rpm reads too
 make() {
     ours "$@"
+    by_rpm "$1"
+}
+
+# lot FILE PLACE ANSWER-3 OPTION...: a book with a lot there, which editions 1 and 2 do not know
+lot() {
+    file=$1 place=$2 three=$3
+    shift 3
+    each "$file" "20 at $place: " "20 at $place: " "$three" "$@"
+    by_rpm "$file"
+}
+
+# by_rpm FILE
+by_rpm() {
+    file=$1
     if command -v rpm > /dev/null; then
         rpm -K --nosignature "$out/$file" > "$out/rpm" || { cat "$out/rpm"; exit 1; }
         [ -n "$(rpm -qp --qf '%{name}' "$out/$file")" ]
@@ -44,23 +66,23 @@ refused_by_rpm() {
     fi
 }
 
-make example.rpm "0 at 1: 27 1250" "0 at 1: 27 1250" --book "02 0007 86 001B 000004E2"
+make example.rpm "0 at 1: 27 1250 0" "0 at 1: 27 1250 0" --book "02 0007 86 001B 000004E2"
 make blank.rpm "0 at 0: " "0 at 0: " --book 00 --weight 0
-make two.rpm "0 at 2: 1 100 2 200" "0 at 2: 1 100 2 200" \
+make two.rpm "0 at 2: 1 100 0 2 200 0" "0 at 2: 1 100 0 2 200 0" \
     --book "86 0001 00000064" --book "86 0002 000000C8" --name two --version 2.0 --release 3 \
     --file /srv/b/two --file /srv/a/two --file /srv/a/one --require kiln --require "glass >= 1.2" \
     --entry "1011:string:A shop" --entry 30000:int16:1,2,0x3 --entry 30001:strings:a,b,c \
     --entry 30002:bin:CAFE --signature-entry 1002:bin:0102
-make newer.rpm "20 at 5: " "0 at 1: 27 1250" --book "14 00000001" --book "98 001B 000004E2 0005"
-make weight.rpm "0 at 1: 27 1250" "23 at 20002: " --book "86 001B 000004E2" --weight 1251
+make newer.rpm "20 at 5: " "0 at 1: 27 1250 0" --book "14 00000001" --book "98 001B 000004E2 0005"
+make weight.rpm "0 at 1: 27 1250 0" "23 at 20002: " --book "86 001B 000004E2" --weight 1251
 make no_weight.rpm "0 at 0: " "14 at 20002: " --book 00 --weight none
 make system.rpm "18 at 1021: " "18 at 1021: " --book 00 --entry 1021:string:hurd
 make flags.rpm "14 at 1126: " "14 at 1126: " --book 00 --without 1126 --entry 1021:string:hurd
 make kind.rpm "20 at 0: " "20 at 0: " --book 96 --weight 0
-make dose.rpm "0 at 2: 27 1250 999 5000000" "0 at 2: 27 1250 999 5000000" --dose 27:1250 --dose 999:5000000
-make page.rpm "0 at 1: 27 1250" "0 at 1: 27 1250" --book "02 0007" --dose 27:1250
+make dose.rpm "0 at 2: 27 1250 0 999 5000000 0" "0 at 2: 27 1250 0 999 5000000 0" --dose 27:1250 --dose 999:5000000
+make page.rpm "0 at 1: 27 1250 0" "0 at 1: 27 1250 0" --book "02 0007" --dose 27:1250
 cmp "$out/page.rpm" "$out/example.rpm"
-make locales.rpm "0 at 1: 27 1250" "0 at 1: 27 1250" --dose 27:1250 --entry 100:strings:C,de,pt_BR \
+make locales.rpm "0 at 1: 27 1250 0" "0 at 1: 27 1250 0" --dose 27:1250 --entry 100:strings:C,de,pt_BR \
     --entry 1004:i18ns:Glazes,Glasuren,Esmaltes --entry 1005:i18ns:One,Eins --entry 1016:i18n:Books,etc
 if command -v rpm > /dev/null; then
     said=$(LC_ALL=C.UTF-8 LANGUAGE=de rpm -qp --qf '%{summary} %{description} %{group}' "$out/locales.rpm")
@@ -77,9 +99,9 @@ refused_by_rpm digest.rpm
 make gap_first.rpm "28 at 356: " "28 at 356: " --dose 27:1250 --gap 5A
 make gap_last.rpm "28 at 359: " "28 at 359: " --dose 27:1250 --gap "00 00 00 01"
 make gap_two.rpm "28 at 357: " "28 at 357: " --dose 27:1250 --gap "00 5A 41"
-make gap_zero.rpm "0 at 1: 27 1250" "0 at 1: 27 1250" --book "02 0007" --dose 27:1250 --gap "00 00 00 00"
+make gap_zero.rpm "0 at 1: 27 1250 0" "0 at 1: 27 1250 0" --book "02 0007" --dose 27:1250 --gap "00 00 00 00"
 cmp "$out/gap_zero.rpm" "$out/example.rpm"
-make gap_none.rpm "0 at 1: 27 1250" "0 at 1: 27 1250" --dose 27:1250 --signature-entry 30000:bin:01020304
+make gap_none.rpm "0 at 1: 27 1250 0" "0 at 1: 27 1250 0" --dose 27:1250 --signature-entry 30000:bin:01020304
 ours gap_system.rpm "28 at 356: " "28 at 356: " --dose 27:1250 --gap 01 --entry 1021:string:hurd
 # turned FILE PART PLACE: example.rpm with one bit turned over at a place of a part in hex; neither accepts it
 turned() {
@@ -90,18 +112,31 @@ bits = bytearray(open(source, "rb").read())
 bits[bits.index(bytes.fromhex(part)) + int(place)] ^= 1
 open(out, "wb").write(bits)
 ' "$out/example.rpm" "$out/$1" "$2" "$3"
-    reads "$1" 1 "27 at 1004: "
-    reads "$1" 2 "27 at 1004: "
+    for edition in 1 2 3; do
+        reads "$1" "$edition" "27 at 1004: "
+    done
     refused_by_rpm "$1"
 }
 turned dose_bit.rpm 86001B000004E2 2
 turned payload_bit.rpm 1F8B 20
-make dose_first.rpm "20 at 7: " "0 at 2: 1 100 27 1250" --dose 1:100 --book "98 001B 000004E2 0005"
+lot lot.rpm 0 "0 at 1: 27 1250 70315" --book "AA 001B 000004E2 000112AB" --weight 1250
+lot lot_0.rpm 3 "0 at 1: 27 1250 0" --book "02 0007 AA 001B 000004E2 00000000" --weight 1250
+lot lot_most.rpm 7 "0 at 3: 1 100 0 999 5000000 4294967295 1 100 0" \
+    --dose 1:100 --book "AA 03E7 004C4B40 FFFFFFFF" --dose 1:100 --weight 5000200
+lot lot_weight.rpm 0 "23 at 20002: " --book "AA 001B 000004E2 000112AB" --weight 71565
+lot lot_cut.rpm 0 "21 at 0: " --book "AA 001B 000004E2 000112" --weight 1250
+each lot_no_weight.rpm "20 at 0: " "14 at 20002: " "14 at 20002: " --book "AA 001B 000004E2 000112AB" --weight none
+lot lot_option.rpm 0 "0 at 1: 27 1250 70315" --lot 27:1250:70315
+cmp "$out/lot_option.rpm" "$out/lot.rpm"
+lot lots.rpm 7 "0 at 3: 1 100 0 27 1250 0 27 1 4294967295" --dose 1:100 --lot 27:1250:0 --lot 27:1:4294967295
+make kind_ba.rpm "20 at 0: " "20 at 0: " --book "BA 001B 000004E2 000112AB" --weight 0
+make dose_first.rpm "20 at 7: " "0 at 2: 1 100 0 27 1250 0" --dose 1:100 --book "98 001B 000004E2 0005"
 # rpm takes a tag of 2^32 - 1 for -1
 ours largest.rpm "0 at 0: " "23 at 20002: " --book 00 --weight 4294967295 --entry 4294967295:int16:65535 \
     --entry 30000:int8:255 --entry 30001:char:0,255 --entry 30002:int32:0xFFFFFFFF
 python3 tools/make_package.py --book "86 FFFF FFFFFFFF" --book "86 FFFF FFFFFFFF" --weight 0 "$out/sum.rpm" > "$out/said"
 reads sum.rpm 2 "22 at 0: "
+reads sum.rpm 3 "22 at 0: "
 if grep -q 'accept\|refuse' "$out/said"; then
     echo "make_package: says how a package is read" >&2
     exit 1
@@ -130,10 +165,17 @@ stops "two whole numbers" --dose 27:1,250
 stops "two whole numbers" --dose 27:1.25
 stops "two whole numbers" --dose 27:-5
 stops "two whole numbers" --dose 27:1250:5
+stops "three whole numbers" --lot 27:1250
+stops "three whole numbers" --lot 27:1250:-5
+stops "three whole numbers" --lot 27:1250:0x5
+stops "three whole numbers" --lot 27:1250:5:5
 stops "oxide 0 is not" --dose 0:5
 stops "oxide 1000 is not" --dose 1000:5
 stops "0 milligrams are not" --dose 27:0
 stops "5000001 milligrams are not" --dose 27:5000001
+stops "oxide 1000 is not" --lot 1000:5:1
+stops "5000001 milligrams are not" --lot 27:5000001:1
+stops "lot 4294967296 is not" --lot 27:1250:4294967296
 stops "--book" --book 1G
 stops "give --weight" --book 96
 stops "give --weight" --book "86 00"

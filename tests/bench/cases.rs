@@ -48,7 +48,11 @@ const ANSWERING: [Side; 2] = [Side::Library, Side::Reference];
 /// Room for any package.
 const ROOM: usize = 65_536;
 /// Room for any book's doses.
-pub const DOSES: usize = 585 * 8;
+pub const DOSES: usize = 585 * 12;
+
+/// The edition of readings; where an older library is measured beside, the one that all know.
+const LATEST: u32 = 3;
+const KNOWN_BEFORE: u32 = 2;
 
 /// What is written to: doses or a digest at its front, or a package.
 #[derive(PartialEq)]
@@ -173,8 +177,9 @@ impl Case {
         }
     }
 
-    /// The answer. The others must agree on it and on what they write; librpm, which has no such
-    /// answers, must find what the library finds.
+    /// The answer. The others must agree on it and on what they write, save the doses of an older
+    /// library, which may be of fewer numbers; librpm, which has no such answers, must find what the
+    /// library finds.
     pub fn answer(&self) -> u64 {
         let told = |side| {
             let mut buffer = Buffer::new();
@@ -185,6 +190,7 @@ impl Case {
             let agrees = match (side, self.call) {
                 (Side::Librpm, Call::Find(..)) => (self.librpm() == 1) == (library.0 >> 32 == 0),
                 (Side::Librpm, _) => true,
+                (Side::Before, Call::Read(_)) => told(side).0 == library.0,
                 _ => told(side) == library,
             };
             assert!(agrees, "{}: {side:?} answers otherwise", self.name);
@@ -205,7 +211,11 @@ fn on_bytes(group: &'static str, name: String, package: Vec<u8>, call: Call) -> 
 }
 
 fn read(group: &'static str, name: String, package: Vec<u8>) -> Case {
-    on_bytes(group, name, package, Call::Read(2))
+    let mut case = on_bytes(group, name, package, Call::Read(LATEST));
+    if case.is_before_and_after() {
+        case.call = Call::Read(KNOWN_BEFORE);
+    }
+    case
 }
 
 /// Writings of the entries that accepted packages have.
@@ -390,7 +400,7 @@ pub fn data(folder: &Path) -> Vec<Case> {
     paths.sort();
     let mut cases = Vec::new();
     for (group, call) in [
-        ("data reading", Call::Read(2)),
+        ("data reading", Call::Read(LATEST)),
         ("data look-up", Call::Find(1, 1126, 6)),
     ] {
         for path in &paths {

@@ -187,7 +187,7 @@ static void leave(const char *path)
     }
 }
 
-/* A whole book: written, read at edition 2, looked into. */
+/* A whole book: written, read at each edition, looked into. */
 static void whole_book(const char *path)
 {
     static uint8_t buffer[4096];
@@ -203,8 +203,8 @@ static void whole_book(const char *path)
     memcpy(package, buffer, length);
     written("book");
 
-    expect("book read", station_read(2, lend(), length, doses, sizeof doses), 0, 1);
-    expect("book read", station_read(1, lend(), length, doses, sizeof doses), 0, 1);
+    for (uint32_t edition = 1; edition <= 3; edition++)
+        expect("book read", station_read(edition, lend(), length, doses, sizeof doses), 0, 1);
     package[length - 5] ^= 1;
     expect("bit turned over", station_read(1, lend(), length, doses, sizeof doses), 27, 1004);
     package[length - 5] ^= 1;
@@ -216,12 +216,12 @@ static void whole_book(const char *path)
     /* The signature ends at 164. */
     for (uint32_t at = 164; at < 168; at++) {
         package[at] = 1;
-        expect("stray byte", station_read(2, lend(), length, doses, sizeof doses), 28, at);
+        expect("stray byte", station_read(3, lend(), length, doses, sizeof doses), 28, at);
         expect("stray byte", station_find(lend(), length, 1, 20002, 4), 28, at);
         package[at] = 0;
     }
     if (memcmp(package + 10, "book-1-1", 9) != 0 ||
-        memcmp(doses, "\0\0\0\33\0\0\4\342", 8) != 0) {
+        memcmp(doses, "\0\0\0\33\0\0\4\342\0\0\0\0", STATION_DOSE_BYTES) != 0) {
         fprintf(stderr, PROGRAM ": the book's name or dose\n");
         exit(1);
     }

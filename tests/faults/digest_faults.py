@@ -16,11 +16,11 @@ BOOK = (
 )
 RECORDS = "\n    // Checks 20 to 22.\n    let doses = book::doses(edition, book)?;\n"
 WEIGHT = (
-    "\n    if edition == 2 {\n"
+    "\n    if edition >= 2 {\n"
     "        let right = book::sum(&doses) == u64::from(number(&header, BATCH_WEIGHT));\n"
     "        check(23, right, BATCH_WEIGHT as usize)?;\n    }\n"
 )
-ROOM = "    let needed = 2 * doses.len();\n    check(24, room >= needed, needed)?;\n"
+ROOM = "    let needed = 3 * doses.len();\n    check(24, room >= needed, needed)?;\n"
 
 EQUAL = "stated == md5(&package[opened.header_start..])"
 
@@ -106,8 +106,8 @@ FAULTS = [
     (27, "after 22", DIGEST + BOOK + RECORDS, BOOK + RECORDS + DIGEST),
     (27, "after 23", DIGEST + BOOK + RECORDS + WEIGHT, BOOK + RECORDS + WEIGHT + DIGEST),
     (27, "after 24", DIGEST + BOOK + RECORDS + WEIGHT + ROOM, BOOK + RECORDS + WEIGHT + ROOM + DIGEST),
-    (27, "in edition 2 only", CHECK_27, CHECK_27.replace("check(27, ", "check(27, edition == 1 || ")),
-    (27, "in edition 1 only", CHECK_27, CHECK_27.replace("check(27, ", "check(27, edition == 2 || ")),
+    (27, "from edition 2 on", CHECK_27, CHECK_27.replace("check(27, ", "check(27, edition == 1 || ")),
+    (27, "in edition 1 only", CHECK_27, CHECK_27.replace("check(27, ", "check(27, edition >= 2 || ")),
     (27, "not without a payload", CHECK_27,
      CHECK_27.replace("check(27, ", "check(27, opened.payload == package.len() || ")),
     (27, "only without a payload", CHECK_27,

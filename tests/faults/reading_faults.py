@@ -4,7 +4,7 @@
 # and reading.rs.
 LINES = "    catalogue::check_lines(edition, signature, &catalogue::SIGNATURE)?;\n"
 HEADER_LINES = "    catalogue::check_lines(edition, header, &catalogue::HEADER)?;\n"
-CHECK_1 = "    check(1, edition == 1 || edition == 2, 0)?;\n"
+CHECK_1 = "    check(1, (1..=3).contains(&edition), 0)?;\n"
 OPENED = "    let opened = sound(package)?;\n    let (signature, header)"
 CHECK_16 = "    check(16, size == package.len() - opened.header_start, 1000)?;\n"
 SIZE = "    let size = number(&signature, 1000) as usize;\n"
@@ -26,16 +26,16 @@ RECORDS_END = (
 )
 CHECK_23 = "        check(23, right, BATCH_WEIGHT as usize)?;\n"
 WEIGHT = (
-    "    if edition == 2 {\n"
+    "    if edition >= 2 {\n"
     "        let right = book::sum(&doses) == u64::from(number(&header, BATCH_WEIGHT));\n"
     + CHECK_23 + "    }\n"
 )
-NEEDED = "    let needed = 2 * doses.len();\n"
+NEEDED = "    let needed = 3 * doses.len();\n"
 CHECK_24 = "    check(24, room >= needed, needed)?;\n"
 WRITE_C = "                place.copy_from_slice(&number.to_be_bytes());\n"
 REFUSED_C = "        Err(refusal) => refusal.packed(),\n    }\n}\n\n/// The program"
 COUNT_C = "            doses.len() as u64\n"
-NUMBERS = "[u32::from(dose.oxide), dose.milligrams]"
+NUMBERS = "[u32::from(dose.oxide), dose.milligrams, dose.lot]"
 FILES_RIGHT = "let right = !header.has(tag) || header.count(tag) == files;"
 NAMES_MISSING = (
     "    for tag in 1116..=1118 {\n        check(17, header.has(tag), tag as usize)?;\n    }\n"
@@ -79,10 +79,10 @@ ENDED = (
 )
 
 FAULTS = [
-    (1, "edition 0 allowed", "edition == 1 || edition == 2, 0", "edition <= 2, 0"),
-    (1, "edition 3 allowed", "edition == 1 || edition == 2, 0", "(1..=3).contains(&edition), 0"),
+    (1, "edition 0 allowed", "(1..=3).contains(&edition), 0", "edition <= 3, 0"),
+    (1, "edition 4 allowed", "(1..=3).contains(&edition), 0", "(1..=4).contains(&edition), 0"),
     (1, "place is the edition",
-     "edition == 1 || edition == 2, 0", "edition == 1 || edition == 2, edition as usize"),
+     "(1..=3).contains(&edition), 0", "(1..=3).contains(&edition), edition as usize"),
     (1, "edition of 8 bits", CHECK_1, "    let edition = edition & 255;\n" + CHECK_1),
     (1, "edition of 16 bits", CHECK_1, "    let edition = edition as u16 as u32;\n" + CHECK_1),
     (1, "edition of 31 bits", CHECK_1, "    let edition = edition << 1 >> 1;\n" + CHECK_1),
@@ -396,7 +396,7 @@ FAULTS = [
     (21, "not tested for remarks",
      "check(21, end <= book.len(), place)", "check(21, !is_weighed(kind) || end <= book.len(), place)"),
     (21, "not tested for unknown remarks",
-     "check(21, end <= book.len(), place)", "check(21, !is_known(kind, 2) || end <= book.len(), place)"),
+     "check(21, end <= book.len(), place)", "check(21, !is_known(kind, 3) || end <= book.len(), place)"),
     (21, "one byte behind asked", "check(21, end <= book.len()", "check(21, end < book.len()"),
     (21, "one byte may lack", "check(21, end <= book.len()", "check(21, end <= book.len() + 1"),
     (21, "place is the book's end",
@@ -404,7 +404,7 @@ FAULTS = [
     (21, "bodies of kind mod 8", "kind % 16", "kind % 8"),
     (21, "unknown remarks without body",
      "usize::from(kind % 16)",
-     "if is_weighed(kind) || is_known(kind, 2) { usize::from(kind % 16) } else { 0 }"),
+     "if is_weighed(kind) || is_known(kind, 3) { usize::from(kind % 16) } else { 0 }"),
 
     (22, "not tested", RANGES, "true"),
     (22, "oxide 0", "(1..=999)", "(0..=999)"),
@@ -438,14 +438,14 @@ FAULTS = [
          "    let mut place = 0;\n"
          "    while place < book.len() {\n"
          "        let end = place + 1 + usize::from(book[place] & 15);\n"
-         "        let right = |record: &[u8]| Dose::of(&record[1..]).is_right();\n"
+         "        let right = |record: &[u8]| Dose::of(record[0], &record[1..]).is_right();\n"
          "        check(22, !is_weighed(book[place]) || right(&book[place..end]), place)?;\n"
          "        place = end;\n"
          "    }\n"
          "    Ok(doses)\n")),
 
     (23, "not tested", CHECK_23, ""),
-    (23, "in edition 1 too", "    if edition == 2 {\n", "    if header.record(BATCH_WEIGHT, 4).is_some() {\n"),
+    (23, "in edition 1 too", "    if edition >= 2 {\n", "    if header.record(BATCH_WEIGHT, 4).is_some() {\n"),
     (23, "sum at most", "book::sum(&doses) ==", "book::sum(&doses) <="),
     (23, "sum at least", "book::sum(&doses) ==", "book::sum(&doses) >="),
     (23, "sum of 31 bits",
@@ -464,7 +464,7 @@ FAULTS = [
     (24, "not tested", CHECK_24, ""),
     (24, "one number may lack", "room >= needed, needed", "room + 1 >= needed, needed"),
     (24, "one number more asked", "room >= needed, needed", "room > needed, needed"),
-    (24, "place is the dose count", "room >= needed, needed", "room >= needed, needed / 2"),
+    (24, "place is the dose count", "room >= needed, needed", "room >= needed, needed / 3"),
     (24, "place is the bytes", "room >= needed, needed", "room >= needed, 4 * needed"),
     (24, "place is what lacks",
      "room >= needed, needed", "room >= needed, needed.saturating_sub(room)"),
@@ -472,19 +472,19 @@ FAULTS = [
     (24, "room in bytes", "buffer.len() / 4)", "buffer.len())"),
     (24, "room in bytes of 16 bits", "buffer.len() / 4)", "buffer.len() as u16 as usize / 4)"),
     (24, "room of 16 bits", "buffer.len() / 4)", "buffer.len() / 4 % 65_536)"),
-    (24, "room for any book asked", "room >= needed, needed", "room >= needed.max(2), needed"),
+    (24, "room for any book asked", "room >= needed, needed", "room >= needed.max(3), needed"),
 
     # The dose buffer.
     ("buffer", "little-endian", WRITE_C, WRITE_C.replace("to_be", "to_le")),
-    ("buffer", "milligrams first", NUMBERS, "[dose.milligrams, u32::from(dose.oxide)]"),
+    ("buffer", "milligrams first", NUMBERS, "[dose.milligrams, u32::from(dose.oxide), dose.lot]"),
     ("buffer", "nothing written", WRITE_C, ""),
     ("buffer", "fixed doses", WRITE_C, WRITE_C.replace("&number.", "&(number % 1 + 27).")),
     ("buffer", "one dose too many counted", COUNT_C, "            doses.len() as u64 + 1\n"),
-    ("buffer", "numbers counted", COUNT_C, "            2 * doses.len() as u64\n"),
+    ("buffer", "numbers counted", COUNT_C, "            3 * doses.len() as u64\n"),
     ("buffer", "rest cleared", COUNT_C,
-     "            buffer[8 * doses.len()..].fill(0);\n" + COUNT_C),
+     "            buffer[12 * doses.len()..].fill(0);\n" + COUNT_C),
     ("buffer", "one number behind cleared", COUNT_C,
-     "            buffer[8 * doses.len()..].iter_mut().take(4).for_each(|byte| *byte = 0);\n"
+     "            buffer[12 * doses.len()..].iter_mut().take(4).for_each(|byte| *byte = 0);\n"
      + COUNT_C),
     ("buffer", "remainder cleared", COUNT_C,
      "            let whole = buffer.len() / 4 * 4;\n            buffer[whole..].fill(0);\n"
@@ -514,19 +514,19 @@ FAULTS = [
      + "        if is_weighed(kind) && is_known(kind, edition) {\n"),
     ("demand3", "edition 1 refuses every book",
      "!is_weighed(kind) || is_known(kind, edition)",
-     "edition == 2 && (!is_weighed(kind) || is_known(kind, edition))"),
+     "edition >= 2 && (!is_weighed(kind) || is_known(kind, edition))"),
     ("demand3", "edition 1 refuses dates",
      "!is_weighed(kind) || is_known(kind, edition)",
-     "!is_weighed(kind) && (kind != 0x14 || edition == 2) || is_known(kind, edition)"),
+     "!is_weighed(kind) && (kind != 0x14 || edition >= 2) || is_known(kind, edition)"),
     ("demand3", "a date's body in edition 1",
      "usize::from(kind % 16)",
      "if kind == 0x14 && edition == 1 { 0 } else { usize::from(kind % 16) }"),
-    ("demand3", "edition 1 asks for 20002", "self.tag != BATCH_WEIGHT || edition == 2", "true"),
-    ("demand3", "1045's line in edition 2 only",
-     "self.tag != BATCH_WEIGHT || edition == 2",
-     "self.tag != BATCH_WEIGHT && self.tag != 1045 || edition == 2"),
-    ("demand3", "no groups in edition 1", GROUPS, "    if edition == 2 {\n    " + GROUPS + "    }\n"),
-    ("demand3", "locales in edition 2 only", GROUPS,
+    ("demand3", "edition 1 asks for 20002", "self.tag != BATCH_WEIGHT || edition >= 2", "true"),
+    ("demand3", "1045's line from edition 2 on",
+     "self.tag != BATCH_WEIGHT || edition >= 2",
+     "self.tag != BATCH_WEIGHT && self.tag != 1045 || edition >= 2"),
+    ("demand3", "no groups in edition 1", GROUPS, "    if edition >= 2 {\n    " + GROUPS + "    }\n"),
+    ("demand3", "locales from edition 2 on", GROUPS,
      "    let of_locales = |place| header.tagged(place).is_some_and(|record| record.ty == 9);\n"
      "    match contents::check_groups(&opened) {\n"
      "        Err(refusal) if edition == 1 && of_locales(refusal.place) => {}\n"
@@ -539,10 +539,10 @@ FAULTS = [
      "    }\n"),
     ("demand3", "other milligrams in edition 2",
      "check(22, dose.is_right(), place)",
-     "check(22, dose.is_right() && (edition == 1 || dose.milligrams < 5_000_000), place)"),
+     "check(22, dose.is_right() && (edition != 2 || dose.milligrams < 5_000_000), place)"),
     ("demand3", "more room in edition 1",
-     NEEDED, "    let needed = 2 * doses.len() + usize::from(edition == 1);\n"),
+     NEEDED, "    let needed = 3 * doses.len() + usize::from(edition == 1);\n"),
     ("demand3", "rest cleared in edition 1", COUNT_C,
-     "            if edition == 1 {\n                buffer[8 * doses.len()..].fill(0);\n"
+     "            if edition == 1 {\n                buffer[12 * doses.len()..].fill(0);\n"
      "            }\n" + COUNT_C),
 ]

@@ -4,8 +4,8 @@ the library, and sees that the comparison finds each. Run from the root:
 
     tests/faults/run.py [--alike] [--table FILE] [CHECK...]
 
-With checks (numbers, `package`, `buffer`, `demand3`, `digest`, `writer`, `version`,
-`requirement`), only the faults of those.
+With checks (numbers, `package`, `buffer`, `lot`, `demand3`, `edition3`, `digest`, `writer`,
+`version`, `requirement`), only the faults of those.
 With --alike the reference that is compared with gets the same fault, as if both
 had misread the paper: what is found then is found by what the maker of the
 packages knows, by demand 3, or by the reference's own samples. With --table the
@@ -25,6 +25,7 @@ import time
 
 import digest_faults
 import gap_faults
+import lot_faults
 import package_faults
 import reading_faults
 import version_faults
@@ -35,8 +36,8 @@ REFERENCE = pathlib.Path("tests/reference")
 # Beside links to tests/compare, tests/data and tests/vectors, which the samples include.
 COPY = OUT / "tests/reference"
 RUST = ["rustc", "--edition", "2021", "-A", "warnings", "-C", f"incremental={OUT / 'incremental'}"]
-FAULTS = (package_faults.FAULTS + gap_faults.FAULTS + reading_faults.FAULTS + digest_faults.FAULTS
-          + writer_faults.FAULTS + version_faults.FAULTS)
+FAULTS = (package_faults.FAULTS + gap_faults.FAULTS + reading_faults.FAULTS + lot_faults.FAULTS
+          + digest_faults.FAULTS + writer_faults.FAULTS + version_faults.FAULTS)
 
 CONTENT = "one damage to an accepted package"
 # The families to try for the writer's faults before all others.
@@ -53,6 +54,7 @@ FIRST = {
     23: CONTENT, 24: "dose buffers", 25: "right packages", 26: "right packages",
     27: "digests of packages", 28: "gaps", "digest": "digests",
     "package": "right packages", "buffer": "dose buffers", "demand3": "kinds",
+    "lot": "lots", "edition3": "two editions",
     33: "sizes of written packages", 34: "buffers to write to", "writer": "written packages",
     "version": "version texts", "requirement": "requirements",
 }
@@ -60,6 +62,7 @@ FIRST = {
 NEXT = {
     10: ["translated strings"], 12: ["translated strings"], 13: ["one damage"], 17: ["locales"],
     26: ["translated strings"], 28: ["gaps of accepted packages", "gaps of written packages"], "demand3": ["locales"],
+    "lot": ["dose buffers", "kinds"], "edition3": ["editions", "lots", "kinds", "gaps of accepted packages"],
     "digest": ["digest buffers", "large digests", "a digest of over 2^32 bits"],
     "version": [
         "single bytes of version texts", "numbers of version texts", "letters of version texts",

@@ -30,7 +30,10 @@ const GROUPS: [&[u32]; 12] = [
 const FILE_TAGS: [u32; 15] = [
     1028, 1030, 1033, 1034, 1035, 1036, 1037, 1039, 1040, 1045, 1095, 1096, 1097, 1116, 1117,
 ];
-const KINDS: [u8; 10] = [0x02, 0x86, 0x86, 0x14, 0x98, 0x98, 0x00, 0x80, 0x96, 0x7F];
+#[rustfmt::skip]
+const KINDS: [u8; 14] = [
+    0x02, 0x86, 0x86, 0x86, 0x14, 0x98, 0x98, 0xAA, 0xAA, 0x00, 0x80, 0x96, 0xBA, 0x7F,
+];
 const OXIDES: [u16; 8] = [0, 1, 2, 27, 998, 999, 1000, 0xFFFF];
 #[rustfmt::skip]
 const MILLIGRAMS: [u32; 9] = [
@@ -38,7 +41,7 @@ const MILLIGRAMS: [u32; 9] = [
 ];
 #[rustfmt::skip]
 const EDITIONS: [u32; 12] = [
-    0, 1, 2, 3, 257, 258, 65_537, 65_538, 1 << 31, (1 << 31) + 1, (1 << 31) + 2, u32::MAX,
+    0, 4, 5, 257, 258, 259, 65_537, 65_539, 1 << 31, (1 << 31) + 1, (1 << 31) + 3, u32::MAX,
 ];
 
 /// Changes an input in one to three ways; `most` is how long it may get.
@@ -514,6 +517,11 @@ fn change_book(header: &mut Structure, random: &mut Random) {
         0 => book.resize(4094 + random.below(5), 0),
         // Many doses, of the largest sum.
         1 => book = [0x86, 0, 1, 0, 0x4C, 0x4B, 0x40].repeat(random.pick(&[200, 430, 585])),
+        // Many lots.
+        2 => {
+            let count = random.pick(&[5, 256, 372]);
+            book = (0..count).flat_map(|_| book_record(random, 0xAA)).collect();
+        }
         _ => {}
     }
     put(header, 20001, 7, book.len() as u32, &book);
@@ -550,7 +558,7 @@ fn repair(package: &mut Package, random: &mut Random, most: usize) {
         pack(&mut package.header);
     }
     let book = data(&package.header, 20001).unwrap_or(&[]);
-    if let Ok(doses) = book::doses(2, book) {
+    if let Ok(doses) = book::doses(3, book) {
         let sum = book::sum(&doses) as u32;
         let weight = match random.below(16) {
             0 => near(random, sum),

@@ -19,13 +19,14 @@ sys.dont_write_bytecode = True
 sys.path.insert(0, 'tests/faults')
 import digest_faults  # noqa: E402
 import gap_faults  # noqa: E402
+import lot_faults  # noqa: E402
 import package_faults  # noqa: E402
 import reading_faults  # noqa: E402
 import version_faults  # noqa: E402
 import writer_faults  # noqa: E402
 
-FAULTS = (package_faults.FAULTS + gap_faults.FAULTS + reading_faults.FAULTS + digest_faults.FAULTS
-          + writer_faults.FAULTS + version_faults.FAULTS)
+FAULTS = (package_faults.FAULTS + gap_faults.FAULTS + reading_faults.FAULTS + lot_faults.FAULTS
+          + digest_faults.FAULTS + writer_faults.FAULTS + version_faults.FAULTS)
 OUT = pathlib.Path('target/host/fuzz-faults')
 COPY = OUT / 'reference'
 LIBRARY = OUT / 'libstation.so'

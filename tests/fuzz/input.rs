@@ -3,7 +3,7 @@
 //!
 //! | Bytes | What |
 //! |---|---|
-//! | 80-83 | an edition, for a reading besides those at 1 and 2 |
+//! | 80-83 | an edition, for a reading besides those at 1 to 3 |
 //! | 84-85 | the length of a dose or package buffer; with the top bit set it is near what is needed |
 //! | 86-87 | how many zero bytes are put behind the input |
 //! | 88-91 | a look-up's tag |
@@ -59,7 +59,7 @@ impl Asked {
     pub fn room(&self, needed: usize) -> usize {
         let number = usize::from(self.room);
         match number < 0x8000 {
-            true => number % 5000,
+            true => number % 7500,
             false => (needed + number % 32).saturating_sub(16),
         }
     }

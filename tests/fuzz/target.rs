@@ -9,7 +9,8 @@ use crate::input::{self, Asked};
 use crate::maker::{md5::md5, S};
 use crate::questions::ask_record;
 use crate::random::Random;
-use crate::reading::{demand3, desk::Desk};
+use crate::reading::demand3::{self, EDITIONS};
+use crate::reading::desk::{Desk, DOSE};
 use crate::required;
 use crate::versions::desk::{Desk as VersionDesk, Memory as VersionMemory};
 use crate::versions::texts::Text;
@@ -18,25 +19,26 @@ use crate::writing::lists::Lent;
 use crate::writing::round_trip::round_trip;
 
 /// Room for any book's doses.
-const ROOM: usize = 585 * 8;
+const ROOM: usize = 585 * DOSE;
 /// How long one input may take, in seconds.
 const LIMIT: u32 = 20;
 
 /// Entries times bytes of a package that goes the round trip, at most.
 const ROUND_TRIP: usize = 1 << 18;
 
-/// Who answered: a reading at edition 1, at edition 2, at another, a look-up, a writing, a
-/// digest, a requirement (1 if it is met, 0 if not), a comparison of versions.
+/// Who answered: a reading at each edition, at another, a look-up, a writing, a digest, a
+/// requirement (1 if it is met, 0 if not), a comparison of versions.
 #[rustfmt::skip]
-pub const ASKED: [&str; 8] = [
-    "edition 1", "edition 2", "other editions", "look-ups", "writings", "digests",
+pub const ASKED: [&str; 9] = [
+    "edition 1", "edition 2", "edition 3", "other editions", "look-ups", "writings", "digests",
     "requirements", "versions",
 ];
-const LOOK_UP: usize = 3;
-const WRITING: usize = 4;
-const DIGEST: usize = 5;
-const REQUIREMENT: usize = 6;
-const VERSION: usize = 7;
+const OTHER_EDITION: usize = EDITIONS.len();
+const LOOK_UP: usize = 4;
+const WRITING: usize = 5;
+const DIGEST: usize = 6;
+const REQUIREMENT: usize = 7;
+const VERSION: usize = 8;
 const NUMBERS: usize = 35;
 const PLACES: usize = 256;
 /// How many sorts of answer are told apart.
@@ -90,11 +92,11 @@ impl Target {
         }
     }
 
-    /// Reads at editions 1 and 2 with room and with the asked buffer, and at the
+    /// Reads at each edition with room and with the asked buffer, and at the
     /// asked edition; asks for the package's digest; looks up what is asked and what stands in
     /// the index, and what is required; writes what the input gives.
     /// A difference ends the program.
-    pub fn run(&mut self, bytes: &[u8]) -> [Answer; 2] {
+    pub fn run(&mut self, bytes: &[u8]) -> [Answer; EDITIONS.len()] {
         let asked = Asked::of(bytes);
         let package = input::package(bytes);
         self.sorts.clear();
@@ -102,16 +104,16 @@ impl Target {
         self.desk.bench.counting = true;
         self.desk.bench.package(&package);
 
-        let answers = self.desk.both(ROOM, None);
-        self.note_both(answers);
+        let answers = self.desk.each(ROOM, None);
+        self.note_each(answers);
         let accepted = answers.iter().filter(|answer| answer.number() == 0);
         let doses = accepted.map(|answer| answer.place()).max().unwrap_or(1);
-        let room = asked.room(8 * doses as usize);
-        let again = self.desk.both(room, None);
-        self.note_both(again);
-        if !matches!(asked.edition, 1 | 2) {
+        let room = asked.room(DOSE * doses as usize);
+        let again = self.desk.each(room, None);
+        self.note_each(again);
+        if !EDITIONS.contains(&asked.edition) {
             let read = self.desk.read(asked.edition, room, None);
-            self.note(2, read.answer);
+            self.note(OTHER_EDITION, read.answer);
         }
 
         self.digest(&asked, &package);
@@ -214,7 +216,7 @@ impl Target {
     /// A written package passes checks 2 to 13, 16, 27 and 28.
     fn read_written(&mut self, package: &[u8]) {
         self.desk.bench.package(package);
-        for answer in self.desk.both(ROOM, None) {
+        for answer in self.desk.each(ROOM, None) {
             if matches!(answer.number(), 2..=13 | 16 | 27 | 28) {
                 let difference = format!("library {answer}: what it wrote");
                 self.desk.bench.fail(&difference);
@@ -229,9 +231,10 @@ impl Target {
         }
     }
 
-    fn note_both(&mut self, answers: [Answer; 2]) {
-        self.note(0, answers[0]);
-        self.note(1, answers[1]);
+    fn note_each(&mut self, answers: [Answer; EDITIONS.len()]) {
+        for (who, answer) in answers.into_iter().enumerate() {
+            self.note(who, answer);
+        }
     }
 
     /// Counts answers anew.

@@ -42,7 +42,7 @@ const fn line(tag: u32, ty: u32, count: Count, status: Status, name: &'static st
     }
 }
 
-/// The batch weight's tag; its line exists in edition 2 only.
+/// The batch weight's tag; its line exists from edition 2 on.
 pub const BATCH_WEIGHT: u32 = 20002;
 pub const BOOK: u32 = 20001;
 
@@ -135,7 +135,7 @@ pub const HEADER: [Line; 71] = [
     line(1131,  STRING,       Exactly(1),  Deprecated,    "RPMTAG_RHNPLATFORM"),
     line(1132,  STRING,       Exactly(1),  Informational, "RPMTAG_PLATFORM"),
     line(20001, BIN,          Any,         Required,      "book"),
-    line(20002, INT32,        Exactly(1),  Required,      "batch weight"), // edition 2 only
+    line(20002, INT32,        Exactly(1),  Required,      "batch weight"), // from edition 2 on
 ];
 
 impl Count {
@@ -149,7 +149,7 @@ impl Count {
 
 impl Line {
     fn exists_in(&self, edition: u32) -> bool {
-        self.tag != BATCH_WEIGHT || edition == 2
+        self.tag != BATCH_WEIGHT || edition >= 2
     }
 }
 

@@ -8,7 +8,7 @@ use super::{check, contents, sound, Checked, Structure};
 
 /// The package's doses, where a buffer has room for this many numbers.
 fn doses(edition: u32, package: &[u8], room: usize) -> Checked<Vec<Dose>> {
-    check(1, edition == 1 || edition == 2, 0)?;
+    check(1, (1..=3).contains(&edition), 0)?;
 
     // Checks 2 to 13 and 28.
     let opened = sound(package)?;
@@ -34,11 +34,11 @@ fn doses(edition: u32, package: &[u8], room: usize) -> Checked<Vec<Dose>> {
     // Checks 20 to 22.
     let doses = book::doses(edition, book)?;
 
-    if edition == 2 {
+    if edition >= 2 {
         let right = book::sum(&doses) == u64::from(number(&header, BATCH_WEIGHT));
         check(23, right, BATCH_WEIGHT as usize)?;
     }
-    let needed = 2 * doses.len();
+    let needed = 3 * doses.len();
     check(24, room >= needed, needed)?;
     Ok(doses)
 }
@@ -49,11 +49,11 @@ fn number(structure: &Structure, tag: u32) -> u32 {
     structure.numbers(record).next().expect("check 15 passed")
 }
 
-/// Oxide, then milligrams, of each dose.
+/// Oxide, milligrams, lot of each dose.
 fn numbers(doses: &[Dose]) -> impl Iterator<Item = u32> + '_ {
     doses
         .iter()
-        .flat_map(|dose| [u32::from(dose.oxide), dose.milligrams])
+        .flat_map(|dose| [u32::from(dose.oxide), dose.milligrams, dose.lot])
 }
 
 /// Reads into a buffer of numbers; the answer is the dose count.
@@ -79,13 +79,13 @@ pub fn read_for_c(edition: u32, package: &[u8], buffer: &mut [u8]) -> u64 {
     }
 }
 
-/// The program's whole output: edition 2, room for any book's doses.
+/// The program's whole output: edition 3, room for any book's doses.
 pub fn printed(package: &[u8]) -> String {
-    match doses(2, package, usize::MAX) {
+    match doses(3, package, usize::MAX) {
         Ok(doses) => {
-            let line = |dose: &Dose| format!("{} {}\n", dose.oxide, dose.milligrams);
+            let line = |dose: &Dose| format!("{} {} {}\n", dose.oxide, dose.milligrams, dose.lot);
             let lines: String = doses.iter().map(line).collect();
-            format!("edition 2\n{lines}total {}\n", book::sum(&doses))
+            format!("edition 3\n{lines}total {}\n", book::sum(&doses))
         }
         Err(refusal) => format!("refused {} at {}\n", refusal.number, refusal.place),
     }

@@ -8,7 +8,10 @@ use super::samples::maker::md5::md5;
 use super::samples::put;
 use super::*;
 
-type Doses<'a> = &'a [[u32; 2]];
+type Doses<'a> = &'a [[u32; 3]];
+
+/// Every edition that there is.
+const EDITIONS: [u32; 3] = [1, 2, 3];
 
 fn bytes(hex: &str) -> Vec<u8> {
     let word = |word| u8::from_str_radix(word, 16).unwrap();
@@ -20,13 +23,13 @@ fn refused<T>(number: u32, place: u32) -> Checked<T> {
 }
 
 /// The doses; behind them and on refusal the buffer stays as it was, in both forms.
-fn doses(edition: u32, package: &[u8]) -> Checked<Vec<[u32; 2]>> {
-    let mut numbers = [7; 1200];
+fn doses(edition: u32, package: &[u8]) -> Checked<Vec<[u32; 3]>> {
+    let mut numbers = [7; 1800];
     let answer = read(edition, package, &mut numbers);
-    let written = 2 * answer.unwrap_or(0) as usize;
+    let written = 3 * answer.unwrap_or(0) as usize;
     assert!(numbers[written..].iter().all(|&number| number == 7));
 
-    let mut bytes = vec![7; 4800];
+    let mut bytes = vec![7; 7200];
     let packed = read_for_c(edition, package, &mut bytes);
     assert_eq!(packed, answer.map_or_else(Refusal::packed, u64::from));
     let (front, behind) = bytes.split_at(4 * written);
@@ -34,8 +37,8 @@ fn doses(edition: u32, package: &[u8]) -> Checked<Vec<[u32; 2]>> {
     assert_eq!(back, numbers[..written]);
     assert!(behind.iter().all(|&byte| byte == 7));
 
-    let pairs = numbers[..written].chunks(2);
-    answer.map(|_| pairs.map(|pair| [pair[0], pair[1]]).collect())
+    let threes = numbers[..written].chunks(3);
+    answer.map(|_| threes.map(|three| three.try_into().unwrap()).collect())
 }
 
 fn sum(doses: Doses) -> u32 {
@@ -43,7 +46,7 @@ fn sum(doses: Doses) -> u32 {
 }
 
 /// Reads a book in the least package, with this batch weight.
-fn book(edition: u32, book: &[u8], weight: u32) -> Checked<Vec<[u32; 2]>> {
+fn book(edition: u32, book: &[u8], weight: u32) -> Checked<Vec<[u32; 3]>> {
     doses(edition, &Content::least(book, weight).bytes())
 }
 
@@ -63,30 +66,78 @@ fn p_books() {
             "{hex}"
         );
     };
-    accepted(2, "86 00 1B 00 4C 4B 40", &[[27, 5_000_000]]);
-    stops(2, "86 00 1B 00 4C 4B 41", 22);
     stops(1, "98 00 1B 00 00 04 E2 00 05", 20);
-    accepted(2, "98 00 1B 00 00 04 E2 00 05", &[[27, 1250]]);
     stops(1, "14 00 00", 21);
-    stops(2, "14 00 00", 21);
-    stops(2, "96", 20);
-    stops(2, "7F", 21);
-    stops(2, "80", 20);
-    accepted(2, "00", &[]);
+    for edition in [2, 3] {
+        accepted(edition, "86 00 1B 00 4C 4B 40", &[[27, 5_000_000, 0]]);
+        stops(edition, "86 00 1B 00 4C 4B 41", 22);
+        accepted(edition, "98 00 1B 00 00 04 E2 00 05", &[[27, 1250, 0]]);
+        stops(edition, "14 00 00", 21);
+        stops(edition, "96", 20);
+        stops(edition, "7F", 21);
+        stops(edition, "80", 20);
+        accepted(edition, "00", &[]);
+    }
+}
+
+#[test]
+fn lots() {
+    let at = |hex: &str, weight| EDITIONS.map(|edition| book(edition, &bytes(hex), weight));
+    let unknown = |place| refused(20, place);
+    // Any lot, from 0 to 2^32 - 1.
+    for (lot, number) in [
+        ("00 00 00 00", 0),
+        ("00 00 00 01", 1),
+        ("01 02 03 04", 0x0102_0304),
+        ("7F FF FF FF", (1 << 31) - 1),
+        ("80 00 00 00", 1 << 31),
+        ("AA AA AA AA", 0xAAAA_AAAA),
+        ("FF FF FF FF", u32::MAX),
+    ] {
+        let right = Ok(vec![[27, 1250, number]]);
+        let hex = format!("AA 00 1B 00 00 04 E2 {lot}");
+        assert_eq!(at(&hex, 1250), [unknown(0), unknown(0), right.clone()]);
+        let hex = format!("02 00 07 {hex}");
+        assert_eq!(at(&hex, 1250), [unknown(3), unknown(3), right]);
+    }
+    // One byte short; an unknown kind goes before.
+    let short = "AA 00 1B 00 00 04 E2 00 00 00";
+    assert_eq!(at(short, 1250), [unknown(0), unknown(0), refused(21, 0)]);
+    assert_eq!(at("AA", 0), [unknown(0), unknown(0), refused(21, 0)]);
+    let wrong = "AA 03 E8 00 00 04 E2 00 00 00 01";
+    assert_eq!(at(wrong, 1250), [unknown(0), unknown(0), refused(22, 0)]);
+    // Each dose has its own lot, and 0 behind one that has another.
+    let mixed = "AA 00 01 00 00 00 01 00 00 00 05 86 00 02 00 00 00 02 \
+                 AA 00 03 00 00 00 03 86 00 04 00 98 00 05 00 00 00 05 86 00 \
+                 AA 00 06 00 00 00 06 00 00 00 00";
+    let right = vec![
+        [1, 1, 5],
+        [2, 2, 0],
+        [3, 3, 0x8600_0400],
+        [5, 5, 0],
+        [6, 6, 0],
+    ];
+    assert_eq!(at(mixed, 17), [unknown(0), unknown(0), Ok(right)]);
+    // Behind kinds that earlier editions know.
+    let later = "86 00 01 00 00 00 01 98 00 02 00 00 00 02 00 00 AA 00 03 00 00 00 03 00 00 00 09";
+    let right = vec![[1, 1, 0], [2, 2, 0], [3, 3, 9]];
+    assert_eq!(at(later, 6), [unknown(7), unknown(16), Ok(right)]);
+    assert_eq!(at(later, 7), [unknown(7), unknown(16), refused(23, 20002)]);
 }
 
 #[test]
 fn oxides_and_milligrams() {
-    for kind in [0x86, 0x98] {
+    for kind in [0x86, 0x98, 0xAA] {
+        let lot = if kind == 0xAA { u32::MAX } else { 0 };
         let dose = |oxide: u16, milligrams: u32| {
             let mut bytes = vec![0x02, 0, 7, kind];
             bytes.extend(oxide.to_be_bytes());
             bytes.extend(milligrams.to_be_bytes());
             bytes.resize(4 + usize::from(kind % 16), 0xFF);
-            book(2, &bytes, milligrams)
+            book(3, &bytes, milligrams)
         };
         for (oxide, milligrams) in [(1, 1), (999, 5_000_000)] {
-            let right = vec![[u32::from(oxide), milligrams]];
+            let right = vec![[u32::from(oxide), milligrams, lot]];
             assert_eq!(dose(oxide, milligrams), Ok(right));
         }
         for oxide in [0, 1000, 256 * 4, u16::MAX] {
@@ -104,47 +155,55 @@ fn books_of_4096_and_4097() {
     let mut full = bytes("86 00 1B 00 4C 4B 40").repeat(585);
     full.push(0);
     assert_eq!(full.len(), 4096);
-    let right = vec![[27, 5_000_000]; 585];
+    let right = vec![[27, 5_000_000, 0]; 585];
     assert_eq!(book(1, &full, 0), Ok(right.clone()));
-    assert_eq!(book(2, &full, 2_925_000_000), Ok(right));
+    for edition in [2, 3] {
+        assert_eq!(book(edition, &full, 2_925_000_000), Ok(right.clone()));
+    }
     full.push(0);
-    for edition in [1, 2] {
+    for edition in EDITIONS {
         assert_eq!(book(edition, &full, 2_925_000_000), refused(19, 20001));
         assert_eq!(book(edition, &[0; 4096], 0), Ok(vec![]));
         assert_eq!(book(edition, &[0; 4097], 0), refused(19, 20001));
     }
+    // 372 doses with lots, and a remark.
+    let mut lots = bytes("AA 00 1B 00 4C 4B 40 FF FF FF FF").repeat(372);
+    lots.extend([3, 0, 0, 0]);
+    assert_eq!(lots.len(), 4096);
+    let right = vec![[27, 5_000_000, u32::MAX]; 372];
+    assert_eq!(book(3, &lots, 1_860_000_000), Ok(right));
 }
 
 #[test]
 fn kinds() {
-    let editions = |hex, weight| [1, 2].map(|edition| book(edition, &bytes(hex), weight));
+    let editions = |hex, weight| EDITIONS.map(|edition| book(edition, &bytes(hex), weight));
     // Unknown remarks are skipped, by their own length.
     let skipped = format!("7F{} 00 86 00 05 00 00 00 09", " 86".repeat(15));
-    let right = vec![[5, 9]];
-    assert_eq!(editions(&skipped, 9), [Ok(right.clone()), Ok(right)]);
-    // Doses in order, an oxide twice; 98 only in edition 2.
+    let right = || Ok(vec![[5, 9, 0]]);
+    assert_eq!(editions(&skipped, 9), [right(), right(), right()]);
+    // Doses in order, an oxide twice; 98 from edition 2 on.
     let both = "86 00 02 00 00 00 01 98 00 01 00 00 00 02 00 00 86 00 02 00 00 00 03";
-    let right = vec![[2, 1], [1, 2], [2, 3]];
-    assert_eq!(editions(both, 6), [refused(20, 7), Ok(right)]);
-    assert_eq!(editions(both, 7), [refused(20, 7), refused(23, 20002)]);
+    let right = || Ok(vec![[2, 1, 0], [1, 2, 0], [2, 3, 0]]);
+    assert_eq!(editions(both, 6), [refused(20, 7), right(), right()]);
+    let wrong = || refused(23, 20002);
+    assert_eq!(editions(both, 7), [refused(20, 7), wrong(), wrong()]);
     // The first record that is wrong decides, then 20 before 21 before 22.
-    assert_eq!(editions("00 FF 7F", 0), [refused(20, 1), refused(20, 1)]);
-    assert_eq!(
-        editions("02 00 07 86 00 00", 0),
-        [refused(21, 3), refused(21, 3)]
-    );
-    assert_eq!(
-        editions("86 00 00 00 00 00 01 80", 1),
-        [refused(22, 0), refused(22, 0)]
-    );
+    let alike = |number, place| [(); 3].map(|_| refused(number, place));
+    assert_eq!(editions("00 FF 7F", 0), alike(20, 1));
+    assert_eq!(editions("02 00 07 86 00 00", 0), alike(21, 3));
+    assert_eq!(editions("86 00 00 00 00 00 01 80", 1), alike(22, 0));
 }
 
 #[test]
 fn example_output() {
     let example = bytes("02 00 07 86 00 1B 00 00 04 E2");
     let print = |book: &[u8], weight| printed(&Content::least(book, weight).bytes());
-    assert_eq!(print(&example, 1250), "edition 2\n27 1250\ntotal 1250\n");
-    assert_eq!(print(&[0], 0), "edition 2\ntotal 0\n");
+    let right = "edition 3\n27 1250 0\ntotal 1250\n";
+    assert_eq!(print(&example, 1250), right);
+    let lot = bytes("AA 00 1B 00 00 04 E2 FF FF FF FF 98 00 01 00 00 00 01 00 00");
+    let right = "edition 3\n27 1250 4294967295\n1 1 0\ntotal 1251\n";
+    assert_eq!(print(&lot, 1251), right);
+    assert_eq!(print(&[0], 0), "edition 3\ntotal 0\n");
     assert_eq!(print(&example, 1251), "refused 23 at 20002\n");
     assert_eq!(printed(&[]), "refused 3 at 0\n");
     assert_eq!(printed(&[0; 65_537]), "refused 2 at 0\n");
@@ -170,16 +229,16 @@ fn packages_of_other_writers() {
         data!("house-i18n"),
         data!("house-make-64"),
     ];
-    for edition in [1, 2] {
+    for edition in EDITIONS {
         for package in no_book {
             assert_eq!(doses(edition, package), refused(14, 20001));
         }
         for package in houses {
-            assert_eq!(doses(edition, package), Ok(vec![[27, 1250]]));
+            assert_eq!(doses(edition, package), Ok(vec![[27, 1250, 0]]));
         }
     }
     for package in houses {
-        assert_eq!(printed(package), "edition 2\n27 1250\ntotal 1250\n");
+        assert_eq!(printed(package), "edition 3\n27 1250 0\ntotal 1250\n");
     }
 }
 
@@ -187,12 +246,12 @@ fn packages_of_other_writers() {
 fn editions() {
     let package = Content::least(&[0], 0).bytes();
     let long = vec![0; 65_537];
-    for edition in [0, 3, 257, 258, 65_537, 1 << 31 | 1, u32::MAX] {
+    for edition in [0, 4, 257, 258, 259, 65_537, 1 << 31 | 3, u32::MAX] {
         for package in [&package[..], &package[..95], &[], &long] {
             assert_eq!(doses(edition, package), refused(1, 0));
         }
     }
-    for edition in [1, 2] {
+    for edition in EDITIONS {
         assert_eq!(doses(edition, &package), Ok(vec![]));
         assert_eq!(doses(edition, &package[..95]), refused(3, 95));
         assert_eq!(doses(edition, &long), refused(2, 0));
@@ -227,12 +286,12 @@ fn catalogue_is_the_papers() {
 const S: usize = content::SIGNATURE;
 const H: usize = content::HEADER;
 
-/// Puts items into the least package, by structure; reads at both editions, which agree.
-fn with(items: &[(usize, Item)]) -> Checked<Vec<[u32; 2]>> {
+/// Puts items into the least package, by structure; reads at each edition, which agree.
+fn with(items: &[(usize, Item)]) -> Checked<Vec<[u32; 3]>> {
     changed(items, &[])
 }
 
-fn changed(items: &[(usize, Item)], removed: &[(usize, u32)]) -> Checked<Vec<[u32; 2]>> {
+fn changed(items: &[(usize, Item)], removed: &[(usize, u32)]) -> Checked<Vec<[u32; 3]>> {
     let mut content = Content::least(&[0], 0);
     for (structure, item) in items {
         content.put(*structure, item.clone());
@@ -241,12 +300,18 @@ fn changed(items: &[(usize, Item)], removed: &[(usize, u32)]) -> Checked<Vec<[u3
         content.remove(structure, tag);
     }
     let package = content.bytes();
-    let answer = doses(2, &package);
-    assert_eq!(doses(1, &package), answer);
-    answer
+    agreed(&package)
 }
 
-fn right() -> Checked<Vec<[u32; 2]>> {
+/// The answer of every edition.
+fn agreed(package: &[u8]) -> Checked<Vec<[u32; 3]>> {
+    let [one, two, three] = EDITIONS.map(|edition| doses(edition, package));
+    assert_eq!(one, two);
+    assert_eq!(two, three);
+    three
+}
+
+fn right() -> Checked<Vec<[u32; 3]>> {
     Ok(vec![])
 }
 
@@ -285,7 +350,7 @@ fn lines_one_by_one() {
     for tag in [1004, 1005, 1016] {
         assert_eq!(with(&[locales(2), translated(tag, 2)]), right());
     }
-    // The batch weight has a line in edition 2 only.
+    // The batch weight has a line from edition 2 on.
     let mut content = Content::least(&[0], 0);
     for (item, number) in [
         (None, 14),
@@ -296,7 +361,9 @@ fn lines_one_by_one() {
         content.remove(H, 20002);
         content.items[H].extend(item);
         assert_eq!(doses(1, &content.bytes()), right());
-        assert_eq!(doses(2, &content.bytes()), refused(number, 20002));
+        for edition in [2, 3] {
+            assert_eq!(doses(edition, &content.bytes()), refused(number, 20002));
+        }
     }
 }
 
@@ -317,8 +384,8 @@ fn size_tag() {
     content.payload = vec![9; 5];
     let package = content.bytes();
     let h = content.package().h();
-    assert_eq!(doses(2, &package), right());
-    assert_eq!(doses(2, &package[..package.len() - 1]), refused(16, 1000));
+    assert_eq!(agreed(&package), right());
+    assert_eq!(agreed(&package[..package.len() - 1]), refused(16, 1000));
     let (length, right) = (package.len() as u32, (package.len() - h) as u32);
     for size in [
         0,
@@ -330,7 +397,7 @@ fn size_tag() {
         right | 1 << 31,
     ] {
         content.size_off = size.wrapping_sub(right);
-        assert_eq!(doses(2, &content.bytes()), refused(16, 1000));
+        assert_eq!(agreed(&content.bytes()), refused(16, 1000));
     }
 }
 
@@ -523,7 +590,9 @@ fn locales_are_the_last_group() {
             refused(17, 20002)
         };
         assert_eq!(doses(1, &content.bytes()), one);
-        assert_eq!(doses(2, &content.bytes()), refused(15, 20002));
+        for edition in [2, 3] {
+            assert_eq!(doses(edition, &content.bytes()), refused(15, 20002));
+        }
     }
 }
 
@@ -535,7 +604,7 @@ fn translated_strings_of_the_signature() {
         content.put(S, translated(1016, strings).1);
         content.bytes()
     };
-    for edition in [1, 2] {
+    for edition in EDITIONS {
         assert_eq!(doses(edition, &package(1)), right());
         // The third record of the signature.
         for strings in [2, 3, 4] {
@@ -585,11 +654,11 @@ fn with_dose() -> Content {
     content
 }
 
-/// Both editions' answers to a package with one byte changed.
-fn with_byte(package: &[u8], at: usize, bit: u8) -> [Checked<Vec<[u32; 2]>>; 2] {
+/// Each edition's answer to a package with one byte changed.
+fn with_byte(package: &[u8], at: usize, bit: u8) -> [Checked<Vec<[u32; 3]>>; 3] {
     let mut package = package.to_vec();
     package[at] ^= bit;
-    [1, 2].map(|edition| doses(edition, &package))
+    EDITIONS.map(|edition| doses(edition, &package))
 }
 
 #[test]
@@ -597,9 +666,9 @@ fn digest_covers_header_and_payload() {
     let content = with_dose();
     let package = content.bytes();
     let h = content.package().h();
-    let wrong = [refused(27, 1004), refused(27, 1004)];
-    let right = [Ok(vec![[27, 1250]]), Ok(vec![[27, 1250]])];
-    assert_eq!([1, 2].map(|edition| doses(edition, &package)), right);
+    let wrong = [(); 3].map(|_| refused(27, 1004));
+    let right = [(); 3].map(|_| Ok(vec![[27, 1250, 0]]));
+    assert_eq!(EDITIONS.map(|edition| doses(edition, &package)), right);
     let data = |structure, tag, ty| find(&package, structure, tag, ty).unwrap();
 
     // The dose, the batch weight, a text, the payload, the digest itself.
@@ -622,7 +691,7 @@ fn digest_covers_header_and_payload() {
     let place = records.records().position(|one| one.tag == 1036).unwrap();
     let mut moved = package.clone();
     put(&mut moved, h + 16 + 16 * place + 8, record(1035));
-    assert_eq!(doses(2, &moved), refused(27, 1004));
+    assert_eq!(agreed(&moved), refused(27, 1004));
 
     // The lead and the rest of the signature don't count; the gap has a check of its own.
     for at in [8, 9, 11, 80, 95] {
@@ -630,8 +699,8 @@ fn digest_covers_header_and_payload() {
     }
     assert_eq!(h, 168);
     for at in 164..h {
-        let stray = || refused(28, at as u32);
-        assert_eq!(with_byte(&package, at, 0x40), [stray(), stray()]);
+        let stray = [(); 3].map(|_| refused(28, at as u32));
+        assert_eq!(with_byte(&package, at, 0x40), stray);
     }
     let mut content = content;
     content.put(S, bin(1002, b"xyz"));
@@ -658,7 +727,7 @@ fn digests_of_other_bytes() {
     ] {
         let mut package = package.clone();
         package[at.clone()].copy_from_slice(&md5(other));
-        for edition in [1, 2] {
+        for edition in EDITIONS {
             assert_eq!(doses(edition, &package), refused(27, 1004));
         }
     }
@@ -674,12 +743,7 @@ fn digest_after_18_before_19() {
         }
         content
     };
-    let answer = |content: Content| {
-        let package = content.bytes();
-        let answer = doses(2, &package);
-        assert_eq!(doses(1, &package), answer);
-        answer
-    };
+    let answer = |content: Content| agreed(&content.bytes());
     let book = |book: &[u8]| answer(wrong_digest(&[(H, bin(20001, book))]));
     assert_eq!(answer(wrong_digest(&[])), refused(27, 1004));
     // Before it.
@@ -700,30 +764,32 @@ fn digest_after_18_before_19() {
     let weight = (H, words(20002, &[1251]));
     assert_eq!(answer(wrong_digest(&[weight])), refused(27, 1004));
     let package = wrong_digest(&[]).bytes();
-    assert_eq!(read(2, &package, &mut []), refused(27, 1004));
+    for edition in EDITIONS {
+        assert_eq!(read(edition, &package, &mut []), refused(27, 1004));
+    }
 }
 
 // ---- The gap ----
 
 #[test]
-fn gap_at_both_editions() {
+fn gap_at_each_edition() {
     for size in 1..=8 {
         let mut content = with_dose();
         content.put(S, bin(1002, &vec![0x55; size]));
         let package = content.bytes();
         let (end, h) = (180 + size, if size <= 4 { 184 } else { 192 });
         assert_eq!(content.package().h(), h);
-        for edition in [1, 2] {
-            assert_eq!(doses(edition, &package), Ok(vec![[27, 1250]]));
+        for edition in EDITIONS {
+            assert_eq!(doses(edition, &package), Ok(vec![[27, 1250, 0]]));
             assert_eq!(doses(edition, &package[..end]), refused(5, h as u32));
             assert_eq!(doses(edition, &package[..h]), refused(5, h as u32));
         }
         for at in end..h {
             for bit in [0x01, 0x40, 0x80, 0xFF] {
-                let stray = || refused(28, at as u32);
-                assert_eq!(with_byte(&package, at, bit), [stray(), stray()]);
+                let stray = [(); 3].map(|_| refused(28, at as u32));
+                assert_eq!(with_byte(&package, at, bit), stray);
                 let cut = &package[..at + 1];
-                assert_eq!(with_byte(cut, at, bit), [stray(), stray()]);
+                assert_eq!(with_byte(cut, at, bit), stray);
             }
         }
     }
@@ -754,12 +820,12 @@ fn gap_before_contents() {
         let package = content.bytes();
         // Without 1004 the signature is 32 bytes shorter.
         let place = 134 + 32 * (content.items[S].len() as u32 - 1);
-        for edition in [1, 2] {
+        for edition in EDITIONS {
             assert_eq!(doses(edition, &package), refused(28, place));
             assert_eq!(read(edition, &package, &mut []), refused(28, place));
         }
         assert_eq!(printed(&package), format!("refused 28 at {place}\n"));
-        for edition in [0, 3, u32::MAX] {
+        for edition in [0, 4, u32::MAX] {
             assert_eq!(doses(edition, &package), refused(1, 0));
         }
     }
@@ -771,36 +837,53 @@ fn gap_before_contents() {
 fn room_for_doses() {
     let two = bytes("86 00 1B 00 00 00 09 86 00 1C 00 00 00 08");
     let package = Content::least(&two, 17).bytes();
-    for edition in [1, 2] {
-        for room in 0..4 {
-            let mut numbers = vec![7; room];
-            assert_eq!(read(edition, &package, &mut numbers), refused(24, 4));
-            assert_eq!(numbers, vec![7; room]);
-        }
-        let mut numbers = [7; 5];
-        assert_eq!(read(edition, &package, &mut numbers), Ok(2));
-        assert_eq!(numbers, [27, 9, 28, 8, 7]);
-
-        for length in 0..16 {
-            let mut bytes = vec![7; length];
-            assert_eq!(read_for_c(edition, &package, &mut bytes), (24 << 32) + 4);
-            assert_eq!(bytes, vec![7; length]);
-        }
-        for remainder in 0..8 {
-            let mut bytes = vec![7; 16 + remainder];
-            assert_eq!(read_for_c(edition, &package, &mut bytes), 2);
-            assert_eq!(
-                bytes[..16],
-                [0, 0, 0, 27, 0, 0, 0, 9, 0, 0, 0, 28, 0, 0, 0, 8]
-            );
-            assert_eq!(bytes[16..], vec![7; remainder]);
-        }
+    let right = [27, 9, 0, 28, 8, 0];
+    for edition in EDITIONS {
+        rooms(edition, &package, &right);
     }
+    let lots = bytes("AA 00 1B 00 00 00 09 01 02 03 04 AA 00 1C 00 00 00 08 FF FF FF FE");
+    let lots = Content::least(&lots, 17).bytes();
+    rooms(3, &lots, &[27, 9, 0x0102_0304, 28, 8, u32::MAX - 1]);
     // 23 goes before 24, and no dose is written before the sum is known.
     let heavier = Content::least(&two, 18).bytes();
-    assert_eq!(read(2, &heavier, &mut [7; 3]), refused(23, 20002));
-    assert_eq!(doses(2, &heavier), refused(23, 20002));
-    assert_eq!(read(1, &heavier, &mut [7; 3]), refused(24, 4));
+    for edition in [2, 3] {
+        assert_eq!(read(edition, &heavier, &mut [7; 5]), refused(23, 20002));
+        assert_eq!(doses(edition, &heavier), refused(23, 20002));
+    }
+    assert_eq!(read(1, &heavier, &mut [7; 5]), refused(24, 6));
     // A book without doses needs no room.
-    assert_eq!(read(2, &Content::least(&[0], 0).bytes(), &mut []), Ok(0));
+    for edition in EDITIONS {
+        let package = Content::least(&[0], 0).bytes();
+        assert_eq!(read(edition, &package, &mut []), Ok(0));
+    }
+}
+
+/// Every length of buffer around six numbers, in both forms.
+fn rooms(edition: u32, package: &[u8], right: &[u32; 6]) {
+    for room in 0..6 {
+        let mut numbers = vec![7; room];
+        assert_eq!(read(edition, package, &mut numbers), refused(24, 6));
+        assert_eq!(numbers, vec![7; room]);
+    }
+    for more in 0..4 {
+        let mut numbers = vec![7; 6 + more];
+        assert_eq!(read(edition, package, &mut numbers), Ok(2));
+        assert_eq!(numbers[..6], right[..]);
+        assert_eq!(numbers[6..], vec![7; more]);
+    }
+    for length in 0..24 {
+        let mut bytes = vec![7; length];
+        assert_eq!(read_for_c(edition, package, &mut bytes), (24 << 32) + 6);
+        assert_eq!(bytes, vec![7; length]);
+    }
+    let right: Vec<u8> = right
+        .iter()
+        .flat_map(|number| number.to_be_bytes())
+        .collect();
+    for more in 0..13 {
+        let mut bytes = vec![7; 24 + more];
+        assert_eq!(read_for_c(edition, package, &mut bytes), 2);
+        assert_eq!(bytes[..24], right);
+        assert_eq!(bytes[24..], vec![7; more]);
+    }
 }

@@ -190,7 +190,7 @@ fn digest_of_a_book() {
         number: 27,
         place: 1004,
     });
-    for edition in [1, 2] {
+    for edition in 1..=3 {
         assert_eq!(read(edition, package, &mut []), Ok(0));
         // The digest's first and last byte, the batch weight, a byte before it.
         for at in [148, 163, package.len() - 4, package.len() - 5] {

@@ -1,4 +1,4 @@
-//! Contents of many shapes that edition 2 accepts, if it accepts the book.
+//! Contents of many shapes that each edition accepts, if it accepts the book.
 
 use super::books::Book;
 use crate::content::*;

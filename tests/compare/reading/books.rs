@@ -1,12 +1,13 @@
 //! Books, with what each must give by its making.
 
-use super::desk::Outcome;
+use super::demand3::EDITIONS;
+use super::desk::{Outcome, Outcomes};
 use crate::random::Random;
 
 pub struct Book {
     pub bytes: Vec<u8>,
-    /// At editions 1 and 2, batch weight apart.
-    pub known: [Outcome; 2],
+    /// At each edition, batch weight apart.
+    pub known: Outcomes,
 }
 
 /// What stands in a weighed body's first six bytes.
@@ -28,6 +29,11 @@ pub fn right_dose(random: &mut Random) -> (u32, u32) {
     (oxide, milligrams)
 }
 
+/// A weighed body with its lot.
+pub fn with_lot(oxide: u32, milligrams: u32, lot: u32) -> Vec<u8> {
+    [&dose(oxide, milligrams)[..], &lot.to_be_bytes()].concat()
+}
+
 /// The body's length of a kind.
 pub fn length(kind: u8) -> usize {
     usize::from(kind % 16)
@@ -37,7 +43,7 @@ impl Book {
     pub fn new() -> Book {
         Book {
             bytes: Vec::new(),
-            known: [Ok(Vec::new()), Ok(Vec::new())],
+            known: [(); EDITIONS.len()].map(|_| Ok(Vec::new())),
         }
     }
 
@@ -56,20 +62,23 @@ impl Book {
             let Ok(doses) = known else {
                 continue;
             };
-            let weighed: &[u8] = [&[0x86][..], &[0x86, 0x98]][at];
+            let weighed = &[0x86, 0x98, 0xAA][..at + 1];
             if kind >= 128 && !weighed.contains(&kind) {
                 *known = Err((20, place));
             } else if body.len() < length(kind) {
                 *known = Err((21, place));
             } else if kind >= 128 {
-                let oxide = u32::from(body[0]) << 8 | u32::from(body[1]);
-                let milligrams = body[2..6]
-                    .iter()
-                    .fold(0, |sum, &byte| sum << 8 | u32::from(byte));
+                let number = |bytes: &[u8]| {
+                    bytes
+                        .iter()
+                        .fold(0, |sum, &byte| sum << 8 | u32::from(byte))
+                };
+                let (oxide, milligrams) = (number(&body[..2]), number(&body[2..6]));
+                let lot = if kind == 0xAA { number(&body[6..]) } else { 0 };
                 if oxide == 0 || oxide > 999 || milligrams == 0 || milligrams > 5_000_000 {
                     *known = Err((22, place));
                 } else {
-                    doses.push([oxide, milligrams]);
+                    doses.push([oxide, milligrams, lot]);
                 }
             }
         }
@@ -95,12 +104,15 @@ impl Book {
         self.record(kind, &body);
     }
 
-    /// A book that edition 2 reads, of at most `most` bytes.
+    /// A book that edition 3 reads, of at most `most` bytes.
     pub fn right(random: &mut Random, most: usize) -> Book {
-        let weighed: &[u8] = match random.below(5) {
+        let weighed: &[u8] = match random.below(8) {
             0 => &[],
             1 => &[0x98],
             2 => &[0x86, 0x98],
+            3 => &[0xAA],
+            4 => &[0x86, 0xAA],
+            5 => &[0x86, 0x98, 0xAA],
             _ => &[0x86],
         };
         let mut book = Book::new();
@@ -112,9 +124,14 @@ impl Book {
         book
     }
 
+    /// What the latest edition gives.
+    pub fn latest(&self) -> &Outcome {
+        &self.known[EDITIONS.len() - 1]
+    }
+
     /// 20002 for this book; 0 where it has no doses.
     pub fn weight(&self) -> u32 {
-        match &self.known[1] {
+        match self.latest() {
             Ok(doses) => doses.iter().map(|dose| dose[1]).sum(),
             Err(_) => 0,
         }

@@ -3,7 +3,7 @@
 
 use super::accepted::{any_count, item, locales, right_item, NO_LINE};
 use super::books::Book;
-use super::desk::Outcome;
+use super::desk::Outcomes;
 use crate::content::*;
 use crate::lines::{self, Line};
 use crate::maker::is_single;
@@ -29,7 +29,7 @@ pub struct Damage {
     /// Where not empty: the place is the one that comes first in the index.
     places: Vec<u32>,
     /// Edition 1 has no such rule.
-    only_edition_2: bool,
+    from_edition_2: bool,
     edits: Vec<Edit>,
 }
 
@@ -76,6 +76,11 @@ impl Damage {
         !self.places.is_empty()
     }
 
+    /// Of 20002: absent, of another type or count, not the sum.
+    pub fn is_of_weight(&self) -> bool {
+        self.from_edition_2
+    }
+
     pub fn is_of_digest(&self) -> bool {
         self.number == 27
     }
@@ -104,22 +109,22 @@ pub fn by_rule(mut damages: Vec<Damage>) -> Vec<Vec<Damage>> {
 
 /// What this content, with this book and these damages done, must give: the first check
 /// decides.
-pub fn outcome(book: &Book, content: &Content, damages: &[&Damage]) -> [Outcome; 2] {
-    let at = |edition: usize| {
+pub fn outcome(book: &Book, content: &Content, damages: &[&Damage]) -> Outcomes {
+    [1, 2, 3].map(|edition| {
         let seen = damages
             .iter()
-            .filter(|damage| edition == 1 || !damage.only_edition_2)
+            .filter(|damage| edition > 1 || !damage.from_edition_2)
             .map(|damage| (damage.order, damage.refusal(content)));
-        let first = match &book.known[edition] {
+        let known = &book.known[edition - 1];
+        let first = match known {
             Ok(_) => seen.min(),
             Err(refusal) => seen.chain([((20, 0), *refusal)]).min(),
         };
         match first {
             Some((_, refusal)) => Err(refusal),
-            None => book.known[edition].clone(),
+            None => known.clone(),
         }
-    };
-    [at(0), at(1)]
+    })
 }
 
 /// Collects damages to a content.
@@ -143,7 +148,7 @@ impl List<'_> {
             number,
             place,
             places: Vec::new(),
-            only_edition_2: place == 20_002,
+            from_edition_2: place == 20_002,
             edits,
         });
     }
@@ -156,7 +161,7 @@ impl List<'_> {
             number: 17,
             place: 0,
             places,
-            only_edition_2: false,
+            from_edition_2: false,
             edits,
         });
     }

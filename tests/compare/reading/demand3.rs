@@ -1,11 +1,20 @@
-//! Demand 3 of the letter, sentence by sentence, on two readings of one package.
+//! Demand 3 of the letter, for every earlier and later edition, sentence by sentence, on
+//! two readings of one package.
 
 use crate::bench::Answer;
 
+/// Every edition that there is; arrays by edition have their order.
+pub const EDITIONS: [u32; 3] = [1, 2, 3];
+
+/// The weighed kinds that each edition knows.
+const WEIGHED: [&[u8]; 3] = [&[0x86], &[0x86, 0x98], &[0x86, 0x98, 0xAA]];
+
 const BATCH_WEIGHT: u32 = 20002;
 
-/// What a reading answered, and its buffer afterwards.
+/// What a reading at an edition answered, and its buffer afterwards.
+#[derive(Clone)]
 pub struct Read {
+    pub edition: u32,
     pub answer: Answer,
     pub buffer: Vec<u8>,
 }
@@ -15,17 +24,23 @@ impl Read {
         self.answer.number() == 0
     }
 
+    /// A refusal that edition 1 has no rule for.
     fn is_about_weight(&self) -> bool {
         matches!(self.answer.number(), 14 | 15 | 23) && self.answer.place() == BATCH_WEIGHT
     }
+
+    fn adds_weight_to(&self, earlier: &Read) -> bool {
+        earlier.edition == 1 && self.is_about_weight()
+    }
 }
 
-/// The place of the first weighed kind that edition 1 lacks.
-fn first_lacked(book: &[u8]) -> Option<usize> {
+/// The place of the first weighed kind that an edition lacks.
+fn first_lacked(edition: u32, book: &[u8]) -> Option<usize> {
+    let known = WEIGHED[edition as usize - 1];
     let mut place = 0;
     while place < book.len() {
         let kind = book[place];
-        if kind >= 128 && kind != 0x86 {
+        if kind >= 128 && !known.contains(&kind) {
             return Some(place);
         }
         place += 1 + usize::from(kind % 16);
@@ -33,62 +48,133 @@ fn first_lacked(book: &[u8]) -> Option<usize> {
     None
 }
 
-/// Both readings had buffers of one length that held the same; `book` is asked
-/// only of a package that edition 2 accepts.
-pub fn holds<'a>(one: &Read, two: &Read, book: impl FnOnce() -> &'a [u8]) -> bool {
-    if two.accepts() {
-        match first_lacked(book()) {
-            Some(place) => one.answer == Answer::new(20, place),
-            None => one.answer == two.answer && one.buffer == two.buffer,
+/// Both readings had buffers of one length that held the same; `book` is asked only of a
+/// package that the later edition accepts.
+pub fn holds<'a>(earlier: &Read, later: &Read, book: impl FnOnce() -> &'a [u8]) -> bool {
+    if later.accepts() {
+        match first_lacked(earlier.edition, book()) {
+            Some(place) => earlier.answer == Answer::new(20, place),
+            None => earlier.answer == later.answer && earlier.buffer == later.buffer,
         }
-    } else if one.accepts() {
-        two.is_about_weight()
+    } else if earlier.accepts() {
+        later.adds_weight_to(earlier)
     } else {
-        one.answer == two.answer || one.answer.number() == 20 || two.is_about_weight()
+        earlier.answer == later.answer
+            || earlier.answer.number() == 20
+            || later.adds_weight_to(earlier)
     }
+}
+
+/// The first two of these readings, in the editions' order, of which it does not hold.
+pub fn broken<'a>(reads: &'a [Read], book: impl Fn() -> &'a [u8]) -> Option<[&'a Read; 2]> {
+    for (at, later) in reads.iter().enumerate() {
+        for earlier in &reads[..at] {
+            if !holds(earlier, later, &book) {
+                return Some([earlier, later]);
+            }
+        }
+    }
+    None
 }
 
 /// Sees that `holds` tells right from wrong.
 pub fn try_out() {
-    let read = |number, place, byte| Read {
-        answer: Answer::new(number, place),
-        buffer: vec![byte; 8],
-    };
-    let plain = || &[0x02, 0, 7, 0x86, 0, 1, 0, 0, 0, 9][..];
-    let newer = || &[0x02, 0x98, 0x98, 0x98, 0, 1, 0, 0, 0, 9, 0, 0][..];
-    let accepted = read(0, 1, 5);
-
-    assert!(holds(&read(0, 1, 5), &accepted, plain));
-    assert!(!holds(&read(0, 2, 5), &accepted, plain));
-    assert!(!holds(&read(0, 1, 6), &accepted, plain));
-    assert!(!holds(&read(20, 3, 5), &accepted, plain));
-    assert!(holds(&read(20, 3, 7), &accepted, newer));
-    assert!(!holds(&read(20, 1, 7), &accepted, newer));
-    assert!(!holds(&read(0, 1, 5), &accepted, newer));
-
-    for number in [14, 15, 23] {
-        assert!(holds(&accepted, &read(number, 20002, 7), plain));
-        assert!(!holds(&accepted, &read(number, 20001, 7), plain));
-        assert!(holds(&read(24, 2, 7), &read(number, 20002, 7), plain));
-        assert!(!holds(&read(24, 2, 7), &read(number, 20001, 7), plain));
+    for (earlier, later) in [(1, 2), (1, 3), (2, 3)] {
+        try_pair(earlier, later);
     }
-    assert!(!holds(&accepted, &read(24, 2, 7), plain));
-    assert!(!holds(&accepted, &read(16, 20002, 7), plain));
-    // A wrong digest is no matter of editions.
-    assert!(holds(&read(27, 1004, 7), &read(27, 1004, 7), plain));
-    assert!(!holds(&read(27, 1004, 7), &accepted, plain));
-    assert!(!holds(&accepted, &read(27, 1004, 7), plain));
-    assert!(!holds(&read(24, 2, 7), &read(27, 1004, 7), plain));
-    assert!(!holds(&read(27, 1004, 7), &read(24, 2, 7), plain));
-    // Neither is a stray byte before the header.
-    assert!(holds(&read(28, 164, 7), &read(28, 164, 7), plain));
-    assert!(!holds(&read(28, 164, 7), &read(28, 165, 7), plain));
-    assert!(!holds(&read(28, 164, 7), &accepted, plain));
-    assert!(!holds(&accepted, &read(28, 164, 7), plain));
-    assert!(!holds(&read(28, 164, 7), &read(5, 168, 7), plain));
-    assert!(!holds(&read(5, 168, 7), &read(28, 164, 7), plain));
-    assert!(holds(&read(22, 0, 7), &read(22, 0, 7), plain));
-    assert!(!holds(&read(22, 0, 7), &read(22, 7, 7), plain));
-    assert!(!holds(&read(21, 0, 7), &read(22, 0, 7), plain));
-    assert!(holds(&read(20, 0, 7), &read(22, 7, 7), plain));
+    try_books();
+    try_all();
+}
+
+fn read(edition: u32, number: u32, place: usize, byte: u8) -> Read {
+    Read {
+        edition,
+        answer: Answer::new(number, place),
+        buffer: vec![byte; 12],
+    }
+}
+
+const PLAIN: &[u8] = &[0x02, 0, 7, 0x86, 0, 1, 0, 0, 0, 9];
+const TOLERATED: &[u8] = &[0x02, 0x98, 0x98, 0x98, 0, 1, 0, 0, 0, 9, 0, 0];
+const WITH_LOT: &[u8] = &[0x02, 0xAA, 0xAA, 0xAA, 0, 1, 0, 0, 0, 9, 0xAA, 0, 0, 0];
+
+/// What holds alike of every two editions, and the batch weight, of which it doesn't.
+fn try_pair(earlier: u32, later: u32) {
+    let one = |number, place, byte| read(earlier, number, place, byte);
+    let two = |number, place, byte| read(later, number, place, byte);
+    let holds = |one: &Read, two: &Read| holds(one, two, || PLAIN);
+    let first = earlier == 1;
+
+    assert!(holds(&one(0, 1, 5), &two(0, 1, 5)));
+    assert!(!holds(&one(0, 2, 5), &two(0, 1, 5)));
+    assert!(!holds(&one(0, 1, 6), &two(0, 1, 5)));
+    assert!(!holds(&one(20, 3, 5), &two(0, 1, 5)));
+    assert!(!holds(&one(24, 3, 5), &two(0, 1, 5)));
+    for number in [14, 15, 23] {
+        assert!(holds(&one(0, 1, 5), &two(number, 20002, 7)) == first);
+        assert!(!holds(&one(0, 1, 5), &two(number, 20001, 7)));
+        assert!(holds(&one(24, 3, 7), &two(number, 20002, 7)) == first);
+        assert!(!holds(&one(24, 3, 7), &two(number, 20001, 7)));
+        assert!(holds(&one(number, 20002, 7), &two(number, 20002, 7)));
+        assert!(!holds(&one(number, 20002, 7), &two(24, 3, 7)));
+    }
+    assert!(!holds(&one(0, 1, 5), &two(20, 3, 7)));
+    assert!(!holds(&one(0, 1, 5), &two(24, 3, 7)));
+    assert!(!holds(&one(0, 1, 5), &two(16, 20002, 7)));
+    // A wrong digest and a stray byte are no matter of editions.
+    for (number, place) in [(27, 1004), (28, 164), (5, 168)] {
+        assert!(holds(&one(number, place, 7), &two(number, place, 7)));
+        assert!(!holds(&one(number, place, 7), &two(number, place + 1, 7)));
+        assert!(!holds(&one(number, place, 7), &two(0, 1, 5)));
+        assert!(!holds(&one(0, 1, 5), &two(number, place, 7)));
+        assert!(!holds(&one(24, 3, 7), &two(number, place, 7)));
+        assert!(!holds(&one(number, place, 7), &two(24, 3, 7)));
+    }
+    assert!(holds(&one(22, 0, 7), &two(22, 0, 7)));
+    assert!(!holds(&one(22, 0, 7), &two(22, 7, 7)));
+    assert!(!holds(&one(21, 0, 7), &two(22, 0, 7)));
+    assert!(holds(&one(20, 0, 7), &two(22, 7, 7)));
+    assert!(!holds(&one(22, 7, 7), &two(20, 0, 7)));
+}
+
+/// Books with kinds that an earlier edition lacks.
+fn try_books() {
+    let tried = |earlier, number, place, later, book: &'static [u8]| {
+        let byte = if number == 0 { 5 } else { 7 };
+        let earlier = read(earlier, number, place, byte);
+        holds(&earlier, &read(later, 0, 1, 5), || book)
+    };
+    for (earlier, later, book) in [
+        (1, 2, TOLERATED),
+        (1, 3, TOLERATED),
+        (1, 3, WITH_LOT),
+        (2, 3, WITH_LOT),
+    ] {
+        assert!(tried(earlier, 20, 3, later, book));
+        assert!(!tried(earlier, 20, 1, later, book));
+        assert!(!tried(earlier, 21, 3, later, book));
+        assert!(!tried(earlier, 0, 1, later, book));
+    }
+    assert!(tried(2, 0, 1, 3, TOLERATED));
+    assert!(!tried(2, 20, 3, 3, TOLERATED));
+}
+
+/// Three readings of one package: every two are looked at.
+fn try_all() {
+    let right = [read(1, 20, 3, 7), read(2, 20, 3, 7), read(3, 0, 1, 5)];
+    assert!(broken(&right, || WITH_LOT).is_none());
+    for at in 0..2 {
+        let mut wrong = right.to_vec();
+        wrong[at].answer = Answer::new(22, 3);
+        assert!(broken(&wrong, || WITH_LOT).is_some());
+    }
+    let weight = [
+        read(1, 0, 1, 5),
+        read(2, 14, 20002, 7),
+        read(3, 14, 20002, 7),
+    ];
+    assert!(broken(&weight, || PLAIN).is_none());
+    let forgotten = [read(1, 0, 1, 5), read(2, 14, 20002, 7), read(3, 0, 1, 5)];
+    let [earlier, later] = broken(&forgotten, || PLAIN).expect("2 and 3 differ");
+    assert!((earlier.edition, later.edition) == (2, 3));
 }

@@ -3,7 +3,7 @@
 
 use reference::reading::read_for_c;
 
-use super::demand3::{self, Read};
+use super::demand3::{self, Read, EDITIONS};
 use crate::bench::{Answer, Bench};
 use crate::fence::Fence;
 use crate::random::Random;
@@ -18,8 +18,14 @@ extern "C" {
     ) -> u64;
 }
 
-/// What a package must give: its doses, or number and place.
-pub type Outcome = Result<Vec<[u32; 2]>, (u32, u32)>;
+/// What a package must give: its doses, oxide, milligrams, lot, or number and place.
+pub type Outcome = Result<Vec<[u32; 3]>, (u32, u32)>;
+
+/// At each edition.
+pub type Outcomes = [Outcome; EDITIONS.len()];
+
+/// Bytes of a dose in the buffer.
+pub const DOSE: usize = 12;
 
 /// Bytes before the dose buffer, which must stay.
 const BEFORE: usize = 64;
@@ -35,11 +41,11 @@ pub struct Desk<'a> {
 }
 
 /// Answer and buffer that an outcome means for a buffer that holds this.
-fn with_buffer(outcome: &Outcome, before: &[u8]) -> Read {
+fn with_buffer(outcome: &Outcome, before: &[u8]) -> (Answer, Vec<u8>) {
     let mut buffer = before.to_vec();
     let answer = match outcome {
         Err((number, place)) => Answer::new(*number, *place as usize),
-        Ok(doses) if buffer.len() / 4 < 2 * doses.len() => Answer::new(24, 2 * doses.len()),
+        Ok(doses) if buffer.len() / 4 < 3 * doses.len() => Answer::new(24, 3 * doses.len()),
         Ok(doses) => {
             for (four, number) in buffer.chunks_exact_mut(4).zip(doses.iter().flatten()) {
                 four.copy_from_slice(&number.to_be_bytes());
@@ -47,7 +53,7 @@ fn with_buffer(outcome: &Outcome, before: &[u8]) -> Read {
             Answer::new(0, doses.len())
         }
     };
-    Read { answer, buffer }
+    (answer, buffer)
 }
 
 impl<'a> Desk<'a> {
@@ -69,8 +75,7 @@ impl<'a> Desk<'a> {
         let before = &lent[BEFORE..];
 
         let mut buffer = before.to_vec();
-        let answer = Answer(read_for_c(edition, self.bench.bytes(), &mut buffer));
-        let reference = Read { answer, buffer };
+        let reference = Answer(read_for_c(edition, self.bench.bytes(), &mut buffer));
 
         let memory = self.fence.last(BEFORE + room);
         memory.copy_from_slice(lent);
@@ -80,10 +85,10 @@ impl<'a> Desk<'a> {
         let (front, after) = memory.split_at(BEFORE);
 
         let mut wrong = Vec::new();
-        if answer != reference.answer {
+        if answer != reference {
             wrong.push("answer");
         }
-        if after != reference.buffer {
+        if after != buffer {
             wrong.push("buffer");
         }
         if answer.number() != 0 && after != before {
@@ -93,14 +98,13 @@ impl<'a> Desk<'a> {
             wrong.push("bytes before the buffer");
         }
         let known = known.map(|outcome| with_buffer(outcome, before));
-        if let Some(known) = &known {
-            if known.answer != answer || known.buffer != after {
+        if let Some((known, buffer)) = &known {
+            if *known != answer || buffer != after {
                 wrong.push("not what is known");
             }
         }
         if !wrong.is_empty() {
-            let known = known.map_or(String::new(), |known| format!(", known {}", known.answer));
-            let reference = reference.answer;
+            let known = known.map_or(String::new(), |(known, _)| format!(", known {known}"));
             self.bench.fail(&format!(
                 "library {answer}, reference {reference}{known} ({})",
                 wrong.join(", ")
@@ -109,52 +113,62 @@ impl<'a> Desk<'a> {
         self.readings += 1;
         self.bench.agree(answer);
         Read {
+            edition,
             answer,
             buffer: after.to_vec(),
         }
     }
 
-    /// Reads at editions 1 and 2, and gives both answers; demand 3 must hold.
-    pub fn both(&mut self, room: usize, known: Option<&[Outcome; 2]>) -> [Answer; 2] {
+    /// Reads at each edition, and gives the answers; demand 3 must hold of every two.
+    pub fn each(&mut self, room: usize, known: Option<&Outcomes>) -> [Answer; EDITIONS.len()] {
         let shift = self.readings;
-        let one = self.read(1, room, known.map(|known| &known[0]));
-        self.readings = shift;
-        let two = self.read(2, room, known.map(|known| &known[1]));
+        let reads = EDITIONS.map(|edition| {
+            // The buffers hold the same beforehand.
+            self.readings = shift;
+            self.read(
+                edition,
+                room,
+                known.map(|known| &known[edition as usize - 1]),
+            )
+        });
         let package = self.bench.bytes();
         let book = || &package[reference::find(package, 1, 20001, 7).expect("a book")];
-        if !demand3::holds(&one, &two, book) {
-            let (one, two) = (one.answer, two.answer);
+        if let Some([earlier, later]) = demand3::broken(&reads, book) {
             self.bench.fail(&format!(
-                "library {one} at edition 1, {two} at edition 2: demand 3"
+                "library {} at edition {}, {} at edition {}: demand 3",
+                earlier.answer, earlier.edition, later.answer, later.edition
             ));
         }
-        [one.answer, two.answer]
+        reads.map(|read| read.answer)
     }
 
     /// A package and what it must give: read with room, and with any buffer.
-    pub fn case(&mut self, random: &mut Random, package: &[u8], known: &[Outcome; 2]) {
+    pub fn case(&mut self, random: &mut Random, package: &[u8], known: &Outcomes) {
         self.bench.package(package);
         self.bench
             .note(std::mem::replace(&mut self.note, "no note"));
-        let needed = match &known[1] {
-            Ok(doses) => 8 * doses.len(),
-            Err(_) => 8,
+        let doses = match &known[EDITIONS.len() - 1] {
+            Ok(doses) => doses.len(),
+            Err(_) => 1,
         };
-        self.both(needed + random.below(12), Some(known));
-        let room = match random.below(4) {
-            0 => random.below(needed + 12),
-            1 => needed.saturating_sub(1 + random.below(9)),
+        let needed = DOSE * doses;
+        self.each(needed + random.below(16), Some(known));
+        let room = match random.below(5) {
+            0 => random.below(needed + 16),
+            1 => needed.saturating_sub(1 + random.below(13)),
             2 => needed,
-            _ => random.below(5000),
+            // Two numbers a dose.
+            3 => needed / 3 * 2,
+            _ => random.below(7500),
         };
-        self.both(room, Some(known));
+        self.each(room, Some(known));
     }
 
     /// A package of which nothing is known.
     pub fn unknown(&mut self, random: &mut Random, package: &[u8]) {
         self.bench.package(package);
-        let room = random.pick(&[0, 7, 8, 9, 80, 4680, 4700]);
-        self.both(room, None);
+        let room = random.pick(&[0, 8, 11, 12, 13, 120, 7020, 7040]);
+        self.each(room, None);
     }
 }
 

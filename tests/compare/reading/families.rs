@@ -3,12 +3,14 @@
 use std::path::Path;
 
 use super::accepted::{content, fill};
-use super::books::{dose, length, right_dose, Book};
+use super::books::{dose, length, right_dose, with_lot, Book};
 use super::damage;
-use super::desk::{Desk, Outcome};
+use super::demand3::EDITIONS;
+use super::desk::{Desk, Outcomes, DOSE};
 use super::digests::digests;
 use super::gaps::{gaps, written_gaps};
 use super::locales::locales;
+use super::lots::{lots, two_editions};
 use super::repeats::repeats;
 use super::written::written;
 use crate::content::{bin, words, Content, HEADER, SIGNATURE};
@@ -21,7 +23,7 @@ use crate::random::Random;
 use crate::real;
 
 /// All families with their names, in the order in which they run.
-pub const ALL: [(&str, fn(&mut Desk, &mut Random)); 22] = [
+pub const ALL: [(&str, fn(&mut Desk, &mut Random)); 24] = [
     ("accepted packages", accepted),
     ("accepted packages of many records", many_records),
     ("sizes of accepted packages", sizes),
@@ -44,12 +46,14 @@ pub const ALL: [(&str, fn(&mut Desk, &mut Random)); 22] = [
     ("repeated tags of accepted packages", repeats),
     ("gaps of accepted packages", gaps),
     ("gaps of written packages", written_gaps),
+    ("lots", lots),
+    ("two editions", two_editions),
 ];
 
 #[rustfmt::skip]
-const OTHER_EDITIONS: [u32; 16] = [
-    0, 3, 4, 255, 256, 257, 258, 65_536, 65_537, 65_538, 1 << 24,
-    (1 << 31) - 1, 1 << 31, (1 << 31) + 1, (1 << 31) + 2, u32::MAX,
+const OTHER_EDITIONS: [u32; 24] = [
+    0, 4, 5, 6, 7, 8, 255, 256, 257, 258, 259, 65_536, 65_537, 65_538, 65_539, 1 << 24, (1 << 24) + 3,
+    (1 << 31) - 1, 1 << 31, (1 << 31) + 1, (1 << 31) + 2, (1 << 31) + 3, u32::MAX - 1, u32::MAX,
 ];
 
 /// An accepted content of any shape, and its book.
@@ -59,10 +63,9 @@ pub fn any(random: &mut Random) -> (Content, Book) {
     (content(random, &book), book)
 }
 
-/// Both editions refuse alike.
-pub fn refused(number: u32, place: usize) -> [Outcome; 2] {
-    let place = place as u32;
-    [Err((number, place)), Err((number, place))]
+/// All editions refuse alike.
+pub fn refused(number: u32, place: usize) -> Outcomes {
+    [(); EDITIONS.len()].map(|_| Err((number, place as u32)))
 }
 
 fn accepted(desk: &mut Desk, random: &mut Random) {
@@ -131,8 +134,8 @@ fn editions(desk: &mut Desk, random: &mut Random) {
             _ => {}
         }
         desk.bench.package(&package);
-        for edition in OTHER_EDITIONS.into_iter().chain([random.number().max(3)]) {
-            let room = random.below(200);
+        for edition in OTHER_EDITIONS.into_iter().chain([random.number().max(4)]) {
+            let room = random.below(300);
             desk.read(edition, room, Some(&one));
         }
     }
@@ -148,23 +151,31 @@ fn rooms(desk: &mut Desk, random: &mut Random) {
         };
         let mut book = Book::new();
         let plain = round % 3 != 0;
-        while book.known[1].as_ref().unwrap().len() < doses {
+        while book.latest().as_ref().unwrap().len() < doses {
             let (oxide, milligrams) = right_dose(random);
-            if plain || random.one_in(2) || doses > 400 {
-                book.record(0x86, &dose(oxide, milligrams));
-            } else {
-                book.record(0x98, &[&dose(oxide, milligrams)[..], b"to"].concat());
+            match random.below(3) {
+                0 if !plain && doses < 400 => {
+                    book.record(0x98, &[&dose(oxide, milligrams)[..], b"to"].concat())
+                }
+                1 if !plain && doses < 300 => {
+                    book.record(0xAA, &with_lot(oxide, milligrams, random.number()))
+                }
+                _ => book.record(0x86, &dose(oxide, milligrams)),
             }
         }
         book.record(0, &[]);
         let content = content(random, &book);
         desk.bench.package(&content.bytes());
-        let needed = 8 * doses;
+        let needed = DOSE * doses;
         for room in needed.saturating_sub(13)..needed + 14 {
-            desk.both(room, Some(&book.known));
+            desk.each(room, Some(&book.known));
         }
         // 65,536 bytes and 65,536 numbers: the low 16 bits of the length are zero.
         let large = [
+            4 * doses,
+            8 * doses,
+            8 * doses + 4,
+            16 * doses,
             needed / 2,
             2 * needed,
             2 * needed + 1,
@@ -174,7 +185,7 @@ fn rooms(desk: &mut Desk, random: &mut Random) {
             1 << 18,
         ];
         for room in (0..13).chain(large) {
-            desk.both(room, Some(&book.known));
+            desk.each(room, Some(&book.known));
         }
     }
 }
@@ -277,7 +288,7 @@ fn cuts(desk: &mut Desk, random: &mut Random) {
 }
 
 /// A package with this book and its weight, and what it must give.
-fn read_book(desk: &mut Desk, random: &mut Random, book: &Book) {
+pub fn read_book(desk: &mut Desk, random: &mut Random, book: &Book) {
     let content = Content::least(&book.bytes, book.weight());
     desk.case(random, &content.bytes(), &book.known);
 }
@@ -287,11 +298,13 @@ fn read_book(desk: &mut Desk, random: &mut Random, book: &Book) {
 fn kinds(desk: &mut Desk, random: &mut Random) {
     let (page, date) = ([0, 7], [1, 2, 3, 4]);
     let cobalt = dose(27, 1250);
-    let fronts: [&[(u8, &[u8])]; 4] = [
+    let lot = with_lot(27, 1250, 0x0102_0304);
+    let fronts: [&[(u8, &[u8])]; 5] = [
         &[],
         &[(0x02, &page)],
         &[(0x14, &date), (0x86, &cobalt)],
         &[(0x00, &[])],
+        &[(0xAA, &lot)],
     ];
     for front in fronts {
         for kind in 0..=255 {
@@ -313,11 +326,19 @@ fn kinds(desk: &mut Desk, random: &mut Random) {
                 book.record(kind, &with_dose(vec![byte; length(kind)]));
                 read_book(desk, random, &book);
             }
-            for after in [None, Some(0x00), Some(0x86), Some(0x80), Some(0x02)] {
+            for after in [
+                None,
+                Some(0x00),
+                Some(0x86),
+                Some(0xAA),
+                Some(0x80),
+                Some(0x02),
+            ] {
                 let mut book = Book::of(front);
                 book.record(kind, &body);
                 match after {
                     Some(0x86) => book.record(0x86, &cobalt),
+                    Some(0xAA) => book.record(0xAA, &lot),
                     Some(kind) => book.record(kind, &[]),
                     None => {}
                 }
@@ -335,7 +356,7 @@ fn wrong_records(desk: &mut Desk, random: &mut Random) {
         0, 1, 256, 65_536, 4_999_999, 5_000_000, 5_000_001, 5_000_256, 1 << 24,
         (1 << 24) + 1, (1 << 31) - 1, 1 << 31, (1 << 31) + 1, u32::MAX - 1, u32::MAX,
     ];
-    for kind in [0x86, 0x98] {
+    for kind in [0x86, 0x98, 0xAA] {
         for oxide in oxides {
             for milligrams in milligrams {
                 let mut book = Book::new();
@@ -359,13 +380,14 @@ fn book_lengths(desk: &mut Desk, random: &mut Random) {
     for size in [
         4000, 4094, 4095, 4096, 4097, 4098, 4103, 5000, 8192, 40_000, 60_000,
     ] {
-        for round in 0..6 {
+        for round in 0..7 {
             let mut book = Book::new();
             while book.bytes.len() + 17 <= size {
                 match round {
                     0 => book.record(0x86, &most),
                     1 => book.record(0, &[]),
                     2 => book.record(0x98, &[&most[..], &[0, 0]].concat()),
+                    6 => book.record(0xAA, &with_lot(999, 5_000_000, u32::MAX)),
                     _ => book.right_record(random, &[0x86]),
                 }
             }
@@ -400,9 +422,12 @@ fn any_book(random: &mut Random) -> Book {
             1 => {
                 let oxide = random.pick(&[0, 1, 999, 1000]);
                 let milligrams = random.pick(&[0, 1, 5_000_000, 5_000_001]);
-                book.record(0x86, &dose(oxide, milligrams));
+                let kind = random.pick(&[0x86, 0x98, 0xAA]);
+                let mut body = dose(oxide, milligrams);
+                body.extend(random.bytes(length(kind) - 6));
+                book.record(kind, &body);
             }
-            _ => book.right_record(random, &[0x86, 0x86, 0x98]),
+            _ => book.right_record(random, &[0x86, 0x86, 0x98, 0xAA]),
         }
     }
     if book.bytes.is_empty() || random.one_in(4) {
@@ -417,13 +442,15 @@ fn any_books(desk: &mut Desk, random: &mut Random) {
     for _ in 0..10_000 {
         let book = any_book(random);
         let mut content = Content::least(&book.bytes, book.weight());
-        // Without its weight right, edition 2 stops at 23.
+        // Without its weight right, editions 2 and 3 stop at 23.
         let mut known = book.known.clone();
         if random.one_in(4) {
             let weight = random.pick(&EXTREMES);
             content.put(HEADER, words(20_002, &[weight]));
-            if known[1].is_ok() && weight != book.weight() {
-                known[1] = Err((23, 20_002));
+            if weight != book.weight() {
+                for known in known[1..].iter_mut().filter(|known| known.is_ok()) {
+                    *known = Err((23, 20_002));
+                }
             }
         }
         desk.case(random, &content.bytes(), &known);
@@ -434,7 +461,7 @@ fn any_books(desk: &mut Desk, random: &mut Random) {
         let mut bytes = random.bytes(size);
         for byte in &mut bytes {
             if random.one_in(2) {
-                *byte = random.pick(&[0x00, 0x02, 0x86, 0x14, 0x98, 0x01]);
+                *byte = random.pick(&[0x00, 0x02, 0x86, 0x14, 0x98, 0xAA, 0x01]);
             }
         }
         let content = Content::least(&bytes, random.pick(&EXTREMES));
@@ -499,7 +526,7 @@ pub fn other_writers(desk: &mut Desk, random: &mut Random, data: &Path) {
         let name = file.file_name().and_then(|name| name.to_str()).unwrap();
         let known = match name {
             name if name.starts_with("rb-") => refused(14, 20_001),
-            _ => [Ok(vec![[27, 1250]]), Ok(vec![[27, 1250]])],
+            _ => [(); EDITIONS.len()].map(|_| Ok(vec![[27, 1250, 0]])),
         };
         let right = std::fs::read(&file).unwrap();
         desk.case(random, &right, &known);

@@ -89,11 +89,11 @@ fn rooms(desk: &mut Desk, random: &mut Random, content: &Content) {
         let mut content = content.clone();
         content.gap[at] = random.nonzero_byte();
         desk.bench.package(&content.bytes());
-        for room in (0..20).chain([4679, 4680, 4681, 9999, 65_536, 1 << 18]) {
-            desk.both(room, Some(&refused(28, gap.start + at)));
+        for room in (0..28).chain([4680, 7019, 7020, 7021, 9999, 65_536, 1 << 18]) {
+            desk.each(room, Some(&refused(28, gap.start + at)));
         }
-        for edition in [0, 3, 257, 1 << 31, u32::MAX] {
-            desk.read(edition, 80, Some(&Err((1, 0))));
+        for edition in [0, 4, 257, 1 << 31, u32::MAX] {
+            desk.read(edition, 120, Some(&Err((1, 0))));
         }
     }
 }

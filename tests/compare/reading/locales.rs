@@ -4,7 +4,7 @@
 use super::accepted::{content, item, NO_LINE};
 use super::books::Book;
 use super::damage::{self, TRANSLATED};
-use super::desk::{Desk, Outcome};
+use super::desk::{Desk, Outcomes};
 use super::families::refused;
 use crate::content::{strings, Content, Item, HEADER, SIGNATURE};
 use crate::random::Random;
@@ -21,8 +21,8 @@ pub fn locales(desk: &mut Desk, random: &mut Random) {
     other_checks(desk, random);
 }
 
-fn no_doses() -> [Outcome; 2] {
-    [Ok(Vec::new()), Ok(Vec::new())]
+fn no_doses() -> Outcomes {
+    Book::new().known
 }
 
 fn tags() -> impl Iterator<Item = u32> {
@@ -39,7 +39,7 @@ fn with_locales(random: &mut Random, count: usize) -> Content {
 }
 
 /// What comes of a content in which these tags have more strings than there are locales.
-fn known(content: &Content, over: &[u32]) -> [Outcome; 2] {
+fn known(content: &Content, over: &[u32]) -> Outcomes {
     let header = content.package().header;
     let mut tags = header.records.iter().map(|record| record[0]);
     match tags.find(|tag| over.contains(tag)) {
@@ -217,8 +217,9 @@ fn batch_weight(desk: &mut Desk, random: &mut Random) {
                         over.push(1016);
                     }
                 }
-                let [one, _] = known(&content, &over);
-                desk.case(random, &content.bytes(), &[one, Err((15, 20_002))]);
+                let mut known = known(&content, &over);
+                known[1..].fill(Err((15, 20_002)));
+                desk.case(random, &content.bytes(), &known);
             }
         }
     }

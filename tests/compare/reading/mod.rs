@@ -1,4 +1,4 @@
-//! `station_read` against the reference, both editions of each case.
+//! `station_read` against the reference, each case at every edition.
 
 mod accepted;
 mod books;
@@ -9,6 +9,7 @@ mod digests;
 mod families;
 mod gaps;
 mod locales;
+mod lots;
 mod repeats;
 mod written;
 
