@@ -218,6 +218,11 @@ impl Bench {
         self.only.as_ref().map_or(true, |only| only == family)
     }
 
+    /// Whether every family is tried.
+    pub fn all_families(&self) -> bool {
+        self.only.is_none()
+    }
+
     /// The package that the next questions are about.
     pub fn package(&mut self, bytes: &[u8]) {
         self.case(bytes);

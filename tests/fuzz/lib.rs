@@ -35,6 +35,7 @@ mod shapes;
 
 #[path = "../compare/reading"]
 mod reading {
+    #[allow(dead_code)]
     pub mod demand3;
     #[allow(dead_code)]
     pub mod desk;

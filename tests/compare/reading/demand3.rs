@@ -1,6 +1,8 @@
 //! Demand 3 of the letter, for every earlier and later edition, sentence by sentence, on
 //! two readings of one package.
 
+use std::fmt;
+
 use crate::bench::Answer;
 
 /// Every edition that there is; arrays by edition have their order.
@@ -12,7 +14,6 @@ const WEIGHED: [&[u8]; 3] = [&[0x86], &[0x86, 0x98], &[0x86, 0x98, 0xAA]];
 const BATCH_WEIGHT: u32 = 20002;
 
 /// What a reading at an edition answered, and its buffer afterwards.
-#[derive(Clone)]
 pub struct Read {
     pub edition: u32,
     pub answer: Answer,
@@ -48,33 +49,76 @@ fn first_lacked(edition: u32, book: &[u8]) -> Option<usize> {
     None
 }
 
-/// Both readings had buffers of one length that held the same; `book` is asked only of a
-/// package that the later edition accepts.
-pub fn holds<'a>(earlier: &Read, later: &Read, book: impl FnOnce() -> &'a [u8]) -> bool {
-    if later.accepts() {
-        match first_lacked(earlier.edition, book()) {
-            Some(place) => earlier.answer == Answer::new(20, place),
-            None => earlier.answer == later.answer && earlier.buffer == later.buffer,
-        }
-    } else if earlier.accepts() {
-        later.adds_weight_to(earlier)
-    } else {
-        earlier.answer == later.answer
-            || earlier.answer.number() == 20
-            || later.adds_weight_to(earlier)
+/// What two readings can have to do with each other. The second and the last are for
+/// edition 1 as the earlier alone.
+#[derive(Clone, Copy, PartialEq, Eq, PartialOrd, Ord)]
+pub enum Case {
+    BothAccept,
+    EarlierAccepts,
+    KindLacked,
+    RefuseAlike,
+    EarlierAt20,
+    LaterAtWeight,
+}
+
+impl fmt::Display for Case {
+    fn fmt(&self, f: &mut fmt::Formatter) -> fmt::Result {
+        f.write_str(match self {
+            Case::BothAccept => "both accept",
+            Case::EarlierAccepts => "the earlier alone accepts",
+            Case::KindLacked => "the earlier lacks a kind",
+            Case::RefuseAlike => "both refuse alike",
+            Case::EarlierAt20 => "both refuse, the earlier with 20",
+            Case::LaterAtWeight => "both refuse, the later at 20002",
+        })
     }
 }
 
-/// The first two of these readings, in the editions' order, of which it does not hold.
-pub fn broken<'a>(reads: &'a [Read], book: impl Fn() -> &'a [u8]) -> Option<[&'a Read; 2]> {
-    for (at, later) in reads.iter().enumerate() {
-        for earlier in &reads[..at] {
-            if !holds(earlier, later, &book) {
-                return Some([earlier, later]);
-            }
+/// Every two editions with what their readings can have to do with each other.
+pub fn cases() -> Vec<(u32, u32, Case)> {
+    use Case::*;
+    let mut all = Vec::new();
+    for [earlier, later] in [[1, 2], [1, 3], [2, 3]] {
+        all.extend(
+            [BothAccept, KindLacked, RefuseAlike, EarlierAt20].map(|case| (earlier, later, case)),
+        );
+        if earlier == 1 {
+            all.extend([EarlierAccepts, LaterAtWeight].map(|case| (earlier, later, case)));
         }
     }
-    None
+    all
+}
+
+/// Where demand 3 holds of two readings, in which way. Both had buffers of one length that held
+/// the same; `book` is asked only of a package that the later edition accepts.
+pub fn case<'a>(earlier: &Read, later: &Read, book: impl FnOnce() -> &'a [u8]) -> Option<Case> {
+    let alike = earlier.answer == later.answer;
+    if later.accepts() {
+        match first_lacked(earlier.edition, book()) {
+            Some(place) => (earlier.answer == Answer::new(20, place)).then_some(Case::KindLacked),
+            None => (alike && earlier.buffer == later.buffer).then_some(Case::BothAccept),
+        }
+    } else if earlier.accepts() {
+        later
+            .adds_weight_to(earlier)
+            .then_some(Case::EarlierAccepts)
+    } else if alike {
+        Some(Case::RefuseAlike)
+    } else if later.adds_weight_to(earlier) {
+        Some(Case::LaterAtWeight)
+    } else {
+        (earlier.answer.number() == 20).then_some(Case::EarlierAt20)
+    }
+}
+
+fn holds<'a>(earlier: &Read, later: &Read, book: impl FnOnce() -> &'a [u8]) -> bool {
+    case(earlier, later, book).is_some()
+}
+
+/// Every two of these readings, in the editions' order.
+pub fn pairs(reads: &[Read]) -> impl Iterator<Item = [&Read; 2]> {
+    let before = move |at: usize| reads[..at].iter().map(move |earlier| [earlier, &reads[at]]);
+    (0..reads.len()).flat_map(before)
 }
 
 /// Sees that `holds` tells right from wrong.
@@ -83,7 +127,7 @@ pub fn try_out() {
         try_pair(earlier, later);
     }
     try_books();
-    try_all();
+    try_pairs();
 }
 
 fn read(edition: u32, number: u32, place: usize, byte: u8) -> Read {
@@ -160,21 +204,17 @@ fn try_books() {
 }
 
 /// Three readings of one package: every two are looked at.
-fn try_all() {
-    let right = [read(1, 20, 3, 7), read(2, 20, 3, 7), read(3, 0, 1, 5)];
-    assert!(broken(&right, || WITH_LOT).is_none());
-    for at in 0..2 {
-        let mut wrong = right.to_vec();
-        wrong[at].answer = Answer::new(22, 3);
-        assert!(broken(&wrong, || WITH_LOT).is_some());
-    }
-    let weight = [
-        read(1, 0, 1, 5),
-        read(2, 14, 20002, 7),
-        read(3, 14, 20002, 7),
-    ];
-    assert!(broken(&weight, || PLAIN).is_none());
-    let forgotten = [read(1, 0, 1, 5), read(2, 14, 20002, 7), read(3, 0, 1, 5)];
-    let [earlier, later] = broken(&forgotten, || PLAIN).expect("2 and 3 differ");
-    assert!((earlier.edition, later.edition) == (2, 3));
+fn try_pairs() {
+    let broken = |reads: [Read; 3], book: &'static [u8]| -> Vec<[u32; 2]> {
+        let wrong = pairs(&reads).filter(|[earlier, later]| !holds(earlier, later, || book));
+        wrong.map(|pair| pair.map(|read| read.edition)).collect()
+    };
+    let with_lot = |one, two| [read(1, one, 3, 7), read(2, two, 3, 7), read(3, 0, 1, 5)];
+    assert!(broken(with_lot(20, 20), WITH_LOT).is_empty());
+    assert!(broken(with_lot(22, 20), WITH_LOT) == [[1, 2], [1, 3]]);
+    assert!(broken(with_lot(20, 22), WITH_LOT) == [[2, 3]]);
+    let no_weight = |three: Read| [read(1, 0, 1, 5), read(2, 14, 20002, 7), three];
+    assert!(broken(no_weight(read(3, 14, 20002, 7)), PLAIN).is_empty());
+    assert!(broken(no_weight(read(3, 0, 1, 5)), PLAIN) == [[2, 3]]);
+    assert!(broken(no_weight(read(3, 15, 20002, 7)), PLAIN) == [[2, 3]]);
 }

@@ -1,9 +1,11 @@
 //! Reads packages with the library and the reference, and compares answers and
 //! dose buffers.
 
+use std::collections::BTreeMap;
+
 use reference::reading::read_for_c;
 
-use super::demand3::{self, Read, EDITIONS};
+use super::demand3::{self, Case, Read, EDITIONS};
 use crate::bench::{Answer, Bench};
 use crate::fence::Fence;
 use crate::random::Random;
@@ -36,6 +38,8 @@ pub struct Desk<'a> {
     /// What buffers hold beforehand.
     noise: Vec<u8>,
     readings: usize,
+    /// How often two editions had to do with each other in each way.
+    pub cases: BTreeMap<(u32, u32, Case), usize>,
     /// A word on the next case, for the report.
     pub note: &'static str,
 }
@@ -63,6 +67,7 @@ impl<'a> Desk<'a> {
             fence: Fence::new(),
             noise: Random::new(7).bytes(1 << 19),
             readings: 0,
+            cases: BTreeMap::new(),
             note: "no note",
         }
     }
@@ -133,11 +138,15 @@ impl<'a> Desk<'a> {
         });
         let package = self.bench.bytes();
         let book = || &package[reference::find(package, 1, 20001, 7).expect("a book")];
-        if let Some([earlier, later]) = demand3::broken(&reads, book) {
-            self.bench.fail(&format!(
-                "library {} at edition {}, {} at edition {}: demand 3",
-                earlier.answer, earlier.edition, later.answer, later.edition
-            ));
+        for [earlier, later] in demand3::pairs(&reads) {
+            let Some(case) = demand3::case(earlier, later, book) else {
+                self.bench.fail(&format!(
+                    "library {} at edition {}, {} at edition {}: demand 3",
+                    earlier.answer, earlier.edition, later.answer, later.edition
+                ));
+            };
+            let pair = (earlier.edition, later.edition, case);
+            *self.cases.entry(pair).or_default() += 1;
         }
         reads.map(|read| read.answer)
     }

@@ -31,4 +31,17 @@ pub fn all(bench: &mut Bench, data: &Path) {
     if desk.bench.begins("reading packages of other writers") {
         families::other_writers(&mut desk, &mut Random::new(199), data);
     }
+    if desk.bench.all_families() {
+        editions_compared(&desk);
+    }
+}
+
+/// How often two editions had to do with each other in each way; each must have come up.
+fn editions_compared(desk: &Desk) {
+    for of in demand3::cases() {
+        let count = desk.cases.get(&of).unwrap_or(&0);
+        let (earlier, later, case) = of;
+        println!("compare: editions {earlier} and {later}, {case}: {count}");
+        assert!(*count > 0, "it never came up");
+    }
 }
