@@ -12,7 +12,7 @@ use Rattle.book.specs.Book.{doseAt}
 use Rattle.book.proofs.DoseLaws.{oxide-joined, milligrams-joined}
 use Rattle.buffer.specs.Buffer.{numbersOf}
 use Rattle.octets.specs.Octets.{numberBytes}
-use Rattle.octets.proofs.OctetLaws.{lot-last}
+use Rattle.octets.proofs.OctetLaws.{twelve-bytes}
 
 oxide-bytes : (a b : ℕ) → a < 256 → b < 256 → bytesOf (a * 256 + b) ≡ 0 ∷ 0 ∷ a ∷ b ∷ []
 unfolding bytesOf
@@ -34,12 +34,13 @@ milligrams-bytes a b c d p q r s =
     let k₄ : n % 256 ≡ d = omega arith in
     rw (k₁, k₂, k₃, k₄)
 
-pub copied : (b : List ℕ) → ((k : ℕ) → getD b k 0 < 256) → (out : List ℕ) (at i : ℕ) {o₁ o₂ : List ℕ} {lot : Lot}
-    → o₁ ≡ sets out i (0 ∷ 0 ∷ getD b (at + 1) 0 ∷ getD b (at + 2) 0 ∷ getD b (at + 3) 0 ∷ getD b (at + 4) 0
-    ∷ getD b (at + 5) 0 ∷ getD b (at + 6) 0 ∷ [])
-    → lot ≡ doseAt b at .lot → o₂ ≡ sets o₁ (i + 8) (bytesOf (lot .0))
-    → o₂ ≡ sets out i (numberBytes (numbersOf (doseAt b at ∷ [])))
-copied b byte out at i {o₁} p e q = lot-last out i (doseAt b at) {o₁ = o₁} (p ∙ rw (oxide, milligrams)) (q ∙ rw e)
+pub copied : (b : List ℕ) → ((k : ℕ) → getD b k 0 < 256) → (out : List ℕ) (at i : ℕ) {o₁ o₂ o₃ : List ℕ} {lot : Lot}
+    → o₁ ≡ sets out i (0 ∷ 0 ∷ getD b (at + 1) 0 ∷ getD b (at + 2) 0 ∷ [])
+    → o₂ ≡ sets o₁ (i + 4) (getD b (at + 3) 0 ∷ getD b (at + 4) 0 ∷ getD b (at + 5) 0 ∷ getD b (at + 6) 0 ∷ [])
+    → lot ≡ doseAt b at .lot → o₃ ≡ sets o₂ (i + 8) (bytesOf (lot .0))
+    → o₃ ≡ sets out i (numberBytes (numbersOf (doseAt b at ∷ [])))
+copied b byte out at i p q e r =
+    twelve-bytes out i (doseAt b at) (p ∙ rw oxide) (q ∙ rw milligrams) (r ∙ rw e)
   where
     oxide : bytesOf (doseAt b at .oxide .0) ≡ 0 ∷ 0 ∷ getD b (at + 1) 0 ∷ getD b (at + 2) 0 ∷ []
     oxide =

@@ -1,4 +1,4 @@
--- Stores of a dose (lot-last, twelve-bytes); doses spelled as bytes (bytes-none, bytes-more), and for callers how much room they take
+-- Stores of a dose (twelve-bytes); doses spelled as bytes (bytes-none, bytes-more), and for callers how much room they take
 -- (bytes-room).
 use Prim.Native.Nat.{ℕ, _+_, _*_}
 use mathlib.Core.Path.{_≡_, refl, sym, _∙_}
@@ -12,27 +12,17 @@ use Rattle.book.specs.declared.dose.Dose.{Dose}
 use Rattle.buffer.specs.Buffer.{numbersOf}
 use Rattle.octets.specs.Octets.{bytesPerNumber, bytesPerDose, numberBytes}
 
--- the bytes of oxide and milligrams
-abbrev pub twoNumbers : Dose → List ℕ
-twoNumbers dose = bytesOf (dose .oxide .0) ++ bytesOf (dose .milligrams .0)
-
--- a dose's bytes: those of its oxide and its milligrams, and those of its lot
-dose-bytes : (dose : Dose) → numberBytes (numbersOf (dose ∷ [])) ≡ twoNumbers dose ++ bytesOf (dose .lot .0)
-unfolding numbersOf numberBytes bytesOf
-dose-bytes dose = refl
-
-pub lot-last : (out : List ℕ) (i : ℕ) (dose : Dose) {o₁ o₂ : List ℕ} → o₁ ≡ sets out i (twoNumbers dose)
-    → o₂ ≡ sets o₁ (i + 8) (bytesOf (dose .lot .0)) → o₂ ≡ sets out i (numberBytes (numbersOf (dose ∷ [])))
-unfolding bytesOf
-lot-last out i dose p q =
-    q ∙ rw (p, dose-bytes dose) (sym (sets-append out i (twoNumbers dose) (bytesOf (dose .lot .0))))
-
 pub twelve-bytes : (out : List ℕ) (i : ℕ) (dose : Dose) {o₁ o₂ o₃ : List ℕ} → o₁ ≡ sets out i (bytesOf (dose .oxide .0))
     → o₂ ≡ sets o₁ (i + bytesPerNumber) (bytesOf (dose .milligrams .0)) → o₃ ≡ sets o₂ (i + 8) (bytesOf (dose .lot .0))
     → o₃ ≡ sets out i (numberBytes (numbersOf (dose ∷ [])))
-unfolding bytesOf
+unfolding numbersOf numberBytes bytesOf
 twelve-bytes out i dose p q r =
-    lot-last out i dose (q ∙ rw p (sym (sets-append out i (bytesOf (dose .oxide .0)) (bytesOf (dose .milligrams .0))))) r
+    r ∙ rw (
+      q,
+      p,
+      ← sets-append out i (bytesOf (dose .oxide .0)) (bytesOf (dose .milligrams .0)),
+      ← sets-append out i (bytesOf (dose .oxide .0) ++ bytesOf (dose .milligrams .0)) (bytesOf (dose .lot .0)),
+    )
 
 pub bytes-none : numberBytes (numbersOf []) ≡ []
 unfolding numbersOf numberBytes bytesOf

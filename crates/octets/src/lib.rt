@@ -25,13 +25,10 @@ fn put_body(out: &mut [u8], i: usize, book: &[u8], at: usize)
     ensures { λ r. ⌜ now (out .exit)
         ≡ sets (now (out .entry)) i (numberBytes (numbersOf (doseAt (now (book .entry)) at ∷ []))) ⌝ }
 {
-    put::eight(
+    put::four(out, i, 0, 0, book[at + 1], book[at + 2]);
+    put::four(
         out,
-        i,
-        0,
-        0,
-        book[at + 1],
-        book[at + 2],
+        i + NUMBER_BYTES,
         book[at + 3],
         book[at + 4],
         book[at + 5],
@@ -40,17 +37,23 @@ fn put_body(out: &mut [u8], i: usize, book: &[u8], at: usize)
     put::number(out, i + LOT, Dose::lot_at(book, at).0);
 }
 
-// Puts the twelve bytes of the dose at a place of a book from a place of the buffer on, as far as that has them.
+// Puts the twelve bytes of the dose at a place of a book from a place of the buffer on, as far as that has them. Where the book
+// has the body's first six bytes and the buffer all twelve, no byte is tested by itself.
 fn put_dose_bytes(out: &mut [u8], i: usize, book: &[u8], at: usize)
     requires { ⌜ i + bytesPerDose < 2 ^ 64 ⌝ }
     ensures { λ r. ⌜ now (out .exit)
         ≡ sets (now (out .entry)) i (numberBytes (numbersOf (doseAt (now (book .entry)) at ∷ []))) ⌝ }
 {
     let len = book.len();
+    let room = out.len();
     if 7 <= len {
         if at <= len - 7 {
-            put_body(out, i, book, at);
-            return;
+            if Dose::BYTES <= room {
+                if i <= room - Dose::BYTES {
+                    put_body(out, i, book, at);
+                    return;
+                }
+            }
         }
     }
     let dose = Dose::at(book, at);

@@ -5,44 +5,50 @@ use borrow.Author.Needs.{needs}
 use Rattle.octets.proofs.put_body.Statement.{statement}
 use Rattle.octets.proofs.put_body.Tie as tie
 
-add-eight : tie.Need-add-eight
-add-eight c = search needs
+add-four : tie.Need-add-four
+add-four c = search needs
 
-shared-slice-read-eight : tie.Need-shared-slice-read-eight
-shared-slice-read-eight c = search needs
+shared-slice-read-four : tie.Need-shared-slice-read-four
+shared-slice-read-four c = search needs
 
-add-eight-2 : tie.Need-add-eight-2
-add-eight-2 c = search needs
+add-four-2 : tie.Need-add-four-2
+add-four-2 c = search needs
 
-shared-slice-read-eight-2 : tie.Need-shared-slice-read-eight-2
-shared-slice-read-eight-2 c = search needs
+shared-slice-read-four-2 : tie.Need-shared-slice-read-four-2
+shared-slice-read-four-2 c = search needs
 
-add-eight-3 : tie.Need-add-eight-3
-add-eight-3 c = search needs
+four-requires : tie.Need-four-requires
+four-requires c κs = search needs
 
-shared-slice-read-eight-3 : tie.Need-shared-slice-read-eight-3
-shared-slice-read-eight-3 c = search needs
+add-four-3 : tie.Need-add-four-3
+add-four-3 c = search needs
 
-add-eight-4 : tie.Need-add-eight-4
-add-eight-4 c = search needs
+add-four-4 : tie.Need-add-four-4
+add-four-4 c = search needs
 
-shared-slice-read-eight-4 : tie.Need-shared-slice-read-eight-4
-shared-slice-read-eight-4 c = search needs
+shared-slice-read-four-3 : tie.Need-shared-slice-read-four-3
+shared-slice-read-four-3 c = search needs
 
-add-eight-5 : tie.Need-add-eight-5
-add-eight-5 c = search needs
+add-four-5 : tie.Need-add-four-5
+add-four-5 c = search needs
 
-shared-slice-read-eight-5 : tie.Need-shared-slice-read-eight-5
-shared-slice-read-eight-5 c = search needs
+shared-slice-read-four-4 : tie.Need-shared-slice-read-four-4
+shared-slice-read-four-4 c = search needs
 
-add-eight-6 : tie.Need-add-eight-6
-add-eight-6 c = search needs
+add-four-6 : tie.Need-add-four-6
+add-four-6 c = search needs
 
-shared-slice-read-eight-6 : tie.Need-shared-slice-read-eight-6
-shared-slice-read-eight-6 c = search needs
+shared-slice-read-four-5 : tie.Need-shared-slice-read-four-5
+shared-slice-read-four-5 c = search needs
 
-eight-requires : tie.Need-eight-requires
-eight-requires c κs = search needs
+add-four-7 : tie.Need-add-four-7
+add-four-7 c = search needs
+
+shared-slice-read-four-6 : tie.Need-shared-slice-read-four-6
+shared-slice-read-four-6 c = search needs
+
+four-requires-2 : tie.Need-four-requires-2
+four-requires-2 c κs = search needs
 
 add-number : tie.Need-add-number
 add-number c = search needs
@@ -58,28 +64,33 @@ same-length c = search needs
 
 returns : tie.Need-returns
 returns c =
-    let at-eight = c .before .before .before .before in
-    let known = at-eight .before .before .before .before .before .before .before .before .before .before .before in
+    let lot = c .before .before .before in
+    let second = lot .before .before .before .before in
+    let first = second .before .before .before .before .before .before .before .before in
+    let known = first .before .before .before .before in
     let args = known .before .before .args in
-    search (laws.copied (args .book .now) (λ k. omega (arith, known .shared-slice-known .given k)))
+    laws.copied (args .book .now) (λ k. omega (arith, known .shared-slice-known .given k)) _ _ _ (first .four .ensures)
+    (second .four2 .ensures) (lot .lot-at .ensures) (c .before .before .number .ensures)
 
 pub put-body-spec : {M : Type 1} → statement M
 put-body-spec =
     tie.close
     (tie.spec
-    add-eight
-    shared-slice-read-eight
-    add-eight-2
-    shared-slice-read-eight-2
-    add-eight-3
-    shared-slice-read-eight-3
-    add-eight-4
-    shared-slice-read-eight-4
-    add-eight-5
-    shared-slice-read-eight-5
-    add-eight-6
-    shared-slice-read-eight-6
-    eight-requires
+    add-four
+    shared-slice-read-four
+    add-four-2
+    shared-slice-read-four-2
+    four-requires
+    add-four-3
+    add-four-4
+    shared-slice-read-four-3
+    add-four-5
+    shared-slice-read-four-4
+    add-four-6
+    shared-slice-read-four-5
+    add-four-7
+    shared-slice-read-four-6
+    four-requires-2
     add-number
     lot-at-requires
     number-requires

@@ -1,4 +1,4 @@
--- From the body where the book has it so far; else the three numbers, one behind the other. Assumes nothing.
+-- From the body where book and buffer have room; else the three numbers, one behind the other. Assumes nothing.
 use mathlib.Core.List.{List}
 use Rattle.book.specs.declared.dose.Dose.{Dose}
 use Rattle.buffer.specs.Buffer.{numbersOf}
