@@ -13,7 +13,7 @@ use Rattle.be.specs.Numbers.{be16At, be32At}
 use Rattle.be.proofs.ByteLaws.{be16-past, be32-past}
 use Rattle.book.specs.declared.dose.Dose.{Dose}
 use Rattle.book.specs.declared.dose.Lot.{Lot}
-use Rattle.book.specs.Book.{kindAt, oxidePlace, milligramsPlace, doseAt, doseLawful}
+use Rattle.book.specs.Book.{kindAt, oxidePlace, milligramsPlace, doseAt, weightLawful, doseLawful}
 use Rattle.book.proofs.KindLaws.{lot-of}
 
 -- the lot of the record at a place: that of kind AA, and none past the end
@@ -50,18 +50,18 @@ milligrams-joined b at = refl
 
 module _ (dose : Dose) where
   pub oxide-low : dose .oxide .0 < 1 → false ≡ doseLawful dose
-  unfolding doseLawful
+  unfolding weightLawful
   oxide-low h = rw (lt-leb 1 (dose .oxide .0) h)
 
   pub oxide-high : 1 ≤ dose .oxide .0 → 999 < dose .oxide .0 → false ≡ doseLawful dose
-  unfolding doseLawful
+  unfolding weightLawful
   oxide-high l h = rw (le-leb 1 (dose .oxide .0) l, lt-leb (dose .oxide .0) 999 h)
 
   module _ (l : 1 ≤ dose .oxide .0) (h : dose .oxide .0 ≤ 999) where
     pub weight-low : dose .milligrams .0 < 1 → false ≡ doseLawful dose
-    unfolding doseLawful
+    unfolding weightLawful
     weight-low k = rw (le-leb 1 (dose .oxide .0) l, le-leb (dose .oxide .0) 999 h, lt-leb 1 (dose .milligrams .0) k)
 
     pub weight-last : 1 ≤ dose .milligrams .0 → leb (dose .milligrams .0) 5000000 ≡ doseLawful dose
-    unfolding doseLawful
+    unfolding weightLawful
     weight-last k = rw (le-leb 1 (dose .oxide .0) l, le-leb (dose .oxide .0) 999 h, le-leb 1 (dose .milligrams .0) k)

@@ -1,5 +1,5 @@
--- What is asked of weighed records only: remark, asked, asked-dose. Known kinds and their bodies: held, held-if, six,
--- lot-of. For callers, kinds-kept: a later edition has the bodies of an earlier one.
+-- What is asked of weighed records only: remark, asked, asked-dose. Known kinds and their bodies: held, held-if,
+-- each-kind, six, lot-of. For callers, kinds-kept: a later edition has the bodies of an earlier one.
 use Prim.Native.Nat.{ℕ, _+_, _≤_}
 use mathlib.Core.Path.{_≡_, refl, ap, _∙_}
 use mathlib.Core.List.{List, [], _∷_}
@@ -10,7 +10,7 @@ use borrow.Author.Tests.{le-leb, leb-true, eqb-true}
 use Rattle.format.proofs.VerdictLaws.{told, untold}
 use Rattle.book.specs.declared.dose.Dose.{Dose}
 use Rattle.be.specs.Numbers.{be32At}
-use Rattle.book.specs.Kinds.{isWeighed, bodySize, Part, Oxide, Milligrams, Lot, Other, Body, Unknown, Holds, isHeld}
+use Rattle.book.specs.Kinds.{isWeighed, bodySize, Part, Oxide, Milligrams, Lot, Body, Unknown, Holds, isHeld}
 use Rattle.book.specs.Kinds.{KindRow, kindTable, kindsIn, kindsOf, isKnown, lastEdition}
 use Rattle.book.specs.Book.{kindAt, lotFrom, lotIn, doseAt, doseLawful, weighedRight}
 
@@ -57,27 +57,36 @@ module _ (edition later : ℕ) (l : edition ≤ later) (kind : ℕ) (parts : Lis
       go true later-rows k = row-kept (r .edition) (r .body) k
       go false later-rows k = later-rows k
 
+-- what holds of each row of a table holds of each kind that it makes known
+abbrev pub EachRow : (ℕ → List Part → Type 0) → List KindRow → Type 0
+EachRow P [] = Unit
+EachRow P (r ∷ rest) = P (r .kind) (r .body) × EachRow P rest
+
+pub each-kind : (P : ℕ → List Part → Type 0) (rows : List KindRow) → EachRow P rows
+    → (edition kind : ℕ) (parts : List Part) → kindsIn rows edition kind ≡ Holds parts → P kind parts
+unfolding kindsIn
+each-kind P [] all edition kind parts h = let z : _≡_ {A = ℕ} 0 1 = cc in absurd (omega arith)
+each-kind P (r ∷ rest) all edition kind parts h =
+    go (eqb kind (r .kind)) refl (leb (r .edition) edition) (all .0) (each-kind P rest (all .1) edition kind parts) h
+  where
+    go : (t : Bool) → eqb kind (r .kind) ≡ t → (has : Bool) → P (r .kind) (r .body)
+        → (kindsIn rest edition kind ≡ Holds parts → P kind parts)
+        → cond t (cond has (Holds (r .body)) Unknown) (kindsIn rest edition kind) ≡ Holds parts → P kind parts
+    go true q true first later k = let same : parts ≡ r .body = cc in rw (eqb-true kind (r .kind) q, same) first
+    go true q false first later k = let z : _≡_ {A = ℕ} 0 1 = cc in absurd (omega arith)
+    go false q has first later k = later k
+
 -- a weighed kind that is known has a body of six bytes or more
 pub six : (edition kind : ℕ) → isWeighed kind ≡ true → isKnown edition kind ≡ true → 6 ≤ bodySize kind
-unfolding kindsIn kindTable
+unfolding kindTable
 six edition kind h k =
-    go (eqb kind 0x02) (eqb kind 0x86) (eqb kind 0x14) (eqb kind 0x98) (eqb kind 0xAA) refl refl refl refl refl k
+    let body = held (kindsOf edition kind) k in
+    each-kind (λ (kind : ℕ) (parts : List Part). 128 ≤ kind → 6 ≤ bodySize kind) kindTable rows edition kind (body .0)
+    (body .1) (leb-true 128 kind h)
   where
-    if : ℕ → List Part → Body
-    if from parts = cond (leb from edition) (Holds parts) Unknown
-
-    go : (p q r t u : Bool) → eqb kind 0x02 ≡ p → eqb kind 0x86 ≡ q → eqb kind 0x14 ≡ r → eqb kind 0x98 ≡ t
-        → eqb kind 0xAA ≡ u
-        → isHeld (cond p (if 1 (Other 2 ∷ [])) (cond q (if 1 (Oxide ∷ Milligrams ∷ [])) (cond r (if 2 (Other 4 ∷ []))
-        (cond t (if 2 (Oxide ∷ Milligrams ∷ Other 2 ∷ [])) (cond u (if 3 (Oxide ∷ Milligrams ∷ Lot ∷ [])) Unknown)))))
-        ≡ true
-        → 6 ≤ bodySize kind
-    go true q r t u a b c d e z = let w = leb-true 128 kind h in let f = eqb-true kind 0x02 a in absurd (omega arith)
-    go false true r t u a b c d e z = rw (eqb-true kind 0x86 b) (omega arith)
-    go false false true t u a b c d e z = let w = leb-true 128 kind h in let f = eqb-true kind 0x14 c in absurd (omega arith)
-    go false false false true u a b c d e z = rw (eqb-true kind 0x98 d) (omega arith)
-    go false false false false true a b c d e z = rw (eqb-true kind 0xAA e) (omega arith)
-    go false false false false false a b c d e z = let y : _≡_ {A = ℕ} 0 1 = cc in absurd (omega arith)
+    rows : EachRow (λ (kind : ℕ) (parts : List Part). 128 ≤ kind → 6 ≤ bodySize kind) kindTable
+    rows =
+        (λ w. absurd (omega arith), (λ w. omega arith, (λ w. absurd (omega arith), (λ w. omega arith, (λ w. omega arith, tt)))))
 
 -- of all kinds AA alone has a lot, right behind its milligrams
 pub lot-of : (kind : ℕ) (b : List ℕ) (at : ℕ)

@@ -2,45 +2,23 @@
 use Prim.Native.Nat.{ℕ, _+_, _%_}
 use mathlib.Core.Path.{_≡_, refl, sym, ap, _∙_}
 use mathlib.Core.List.{List, [], _∷_}
-use mathlib.Core.Bool.{Bool, true, false, cond, _&&_, and-eq-true-iff}
+use mathlib.Core.Bool.{Bool, true, false, cond}
 use lib.ListN.{length}
-use lib.Dec.{eqb, leb}
 use native.Mathlib.Omega.{arith}
-use borrow.Author.Tests.{eqb-true}
 use Rattle.format.specs.declared.verdict.Verdict.the-variants.{Pass}
 use Rattle.book.specs.declared.dose.Dose.{Dose}
-use Rattle.book.specs.Kinds.{isWeighed, Part, Body, Unknown, Holds, Kinds, knows, KindRow, kindTable, kindsIn}
+use Rattle.book.specs.Kinds.{isWeighed, Part, Body, Kinds, knows, kindTable}
 use Rattle.book.specs.Book.{kindAt, places, lotIn, doseBy, recordsCheck}
 use Rattle.book.specs.Doses.{dosesBy, sumOf}
 use Rattle.book.specs.KindTheorems.{partsSize, BodiesSized, AnyKinds, KeepsKinds, KeptKinds}
-use Rattle.book.proofs.KindLaws.{held}
+use Rattle.book.proofs.KindLaws.{held, each-kind}
 use Rattle.book.proofs.PassLaws.{record-pass, pass-first, pass-records}
 
--- one test over the rows of the table
-unfoldable areSized : List KindRow → Bool
-areSized [] = true
-areSized (r ∷ rest) = eqb (partsSize (r .body)) (r .kind % 16) && areSized rest
-
-rows-sized : (rows : List KindRow) → areSized rows ≡ true → (edition kind : ℕ) (parts : List Part)
-    → kindsIn rows edition kind ≡ Holds parts → partsSize parts ≡ kind % 16
-unfolding areSized kindsIn
-rows-sized [] t edition kind parts h = let z : _≡_ {A = ℕ} 0 1 = cc in absurd (omega arith)
-rows-sized (r ∷ rest) t edition kind parts h =
-    let k = and-eq-true-iff (eqb (partsSize (r .body)) (r .kind % 16)) (areSized rest) .0 t in
-    go (eqb kind (r .kind)) refl (leb (r .edition) edition) (eqb-true _ _ (k .0)) (rows-sized rest (k .1) edition kind parts) h
-  where
-    go : (s : Bool) → eqb kind (r .kind) ≡ s → (e : Bool) → partsSize (r .body) ≡ r .kind % 16
-        → (kindsIn rest edition kind ≡ Holds parts → partsSize parts ≡ kind % 16)
-        → cond s (cond e (Holds (r .body)) Unknown) (kindsIn rest edition kind) ≡ Holds parts → partsSize parts ≡ kind % 16
-    go true q true first later g =
-        let same : r .body ≡ parts = cc in
-        ap partsSize (sym same) ∙ first ∙ ap (λ (n : ℕ). n % 16) (sym (eqb-true kind (r .kind) q))
-    go true q false first later g = let z : _≡_ {A = ℕ} 0 1 = cc in absurd (omega arith)
-    go false q e first later g = later g
-
 pub bodies-sized : BodiesSized
-unfolding areSized kindTable partsSize
-bodies-sized = rows-sized kindTable refl
+unfolding kindTable partsSize
+bodies-sized =
+    each-kind (λ (kind : ℕ) (parts : List Part). partsSize parts ≡ kind % 16) kindTable
+    (refl, (refl, (refl, (refl, (refl, tt)))))
 
 module _ (kinds kinds′ : Kinds) (b : List ℕ) where
   abbrev Alike : List Dose → List Dose → Type 0

@@ -25,7 +25,7 @@ use Rattle.book.specs.Book.{
   kindAllowed,
   bodyFits,
   weighedRight,
-  doseLawful,
+  weightLawful, doseLawful,
   recordCheck,
   recordsCheck,
   lengthCheck,
@@ -41,7 +41,7 @@ and-true false b h = let z : _≡_ {A = ℕ} 0 1 = cc in absurd (omega arith)
 
 pub lawful-pass : (dose : Dose) → doseLawful dose ≡ true
     → (1 ≤ dose .oxide .0) × (dose .oxide .0 ≤ 999) × (1 ≤ dose .milligrams .0) × (dose .milligrams .0 ≤ 5000000)
-unfolding doseLawful
+unfolding weightLawful
 lawful-pass dose h =
     let k = and-true _ _ h in
     let j = and-true _ _ (k .0) in

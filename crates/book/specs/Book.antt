@@ -80,12 +80,15 @@ abbrev pub bodyFits : List ℕ → ℕ → Bool
 bodyFits b at = leb (recordEnd b at) (length b)
 
 -- 22 | oxide or milligrams: oxide is 1 to 999, milligrams 1 to 5,000,000
-unfoldable pub doseLawful : Dose → Bool
-doseLawful dose =
-    leb 1 (dose .oxide .0) && leb (dose .oxide .0) 999 && leb 1 (dose .milligrams .0) && leb (dose .milligrams .0) 5000000
+unfoldable pub weightLawful : ℕ → ℕ → Bool
+weightLawful oxide milligrams = leb 1 oxide && leb oxide 999 && leb 1 milligrams && leb milligrams 5000000
+
+abbrev pub doseLawful : Dose → Bool
+doseLawful dose = weightLawful (dose .oxide .0) (dose .milligrams .0)
 
 abbrev pub weighedRight : List ℕ → ℕ → Bool
-weighedRight b at = cond (isWeighed (kindAt b at)) (doseLawful (doseAt b at)) true
+weighedRight b at =
+    cond (isWeighed (kindAt b at)) (weightLawful (be16At b (at + oxidePlace)) (be32At b (at + milligramsPlace))) true
 
 -- 20 to 22 for the record at a place, which is its kind byte's offset in the book
 unfoldable pub recordCheck : (ℕ → Bool) → List ℕ → ℕ → Verdict

@@ -14,7 +14,7 @@ use Rattle.package.specs.Package.{headerStart, signatureAt, headerAt}
 use Rattle.rules.specs.Rules.{rulesOver, rulesCheck}
 use Rattle.md5.specs.Md5.{digest}
 use Rattle.book.specs.Kinds.{knows}
-use Rattle.book.specs.Doses.{doses, sumOf}
+use Rattle.book.specs.Doses.{dosesIn, sumOf}
 use Rattle.book.specs.RowTheorems.{HoldDoses}
 use Rattle.book.specs.KindTheorems.{partsSize, SizedKinds}
 use Rattle.book.proofs.KindLaws.{held}
@@ -57,8 +57,8 @@ module _ (edition : Edition) (s : List ℕ) where
   Weighed room start =
       LawfulBook known (bookIn s (sectionAt s start))
       × ((HasLine batchTag (edition .header)
-      → NumberIs s (sectionAt s start) batchTag (sumOf (doses (bookIn s (sectionAt s start)))))
-      × (needed (bookOf s) ≤ room))
+      → NumberIs s (sectionAt s start) batchTag (sumOf (dosesIn (edition .kinds) (bookIn s (sectionAt s start)))))
+      × (needed (edition .kinds) (bookOf s) ≤ room))
 
   -- 14 to 18
   rules-lawful : (start : ℕ) → IsEdition edition → Apart s (signatureAt s) → LawfulStructure Header s start
@@ -78,7 +78,7 @@ module _ (edition : Edition) (s : List ℕ) where
       texts-lawful s start lawful (text-lines edition is s signature header lines)
       (directories-there s signature header groups)
 
-  room-lawful : (room : ℕ) → (roomCheck room (bookOf s) ≡ Pass) ↔ (needed (bookOf s) ≤ room)
+  room-lawful : (room : ℕ) → (roomCheck (edition .kinds) room (bookOf s) ≡ Pass) ↔ (needed (edition .kinds) (bookOf s) ≤ room)
   unfolding roomCheck
   room-lawful room = simp (last-iff, leb-iff) Iff·rfl
 
@@ -91,7 +91,7 @@ module _ (edition : Edition) (s : List ℕ) where
       → (bookPart edition s (headerAt s) room (bookOf s) ≡ Pass) ↔ Weighed room H
   unfolding bookPart
   part-lawful is hold room lawful lines =
-      let sum = sumOf (doses (bookOf s)) in
+      let sum = sumOf (dosesIn (edition .kinds) (bookOf s)) in
       let there = batch-there edition is s (signatureAt s) (headerAt s) lines in
       then-iff _ _ (book-lawful known hold (bookOf s)) λ book.
       then-iff _ _ (batch-lawful s H lawful edition sum there) λ batch.
@@ -121,10 +121,10 @@ module _ (edition : Edition) (s : List ℕ) where
         texts = rules .1 .1 .1;
         digested = digested;
         book = part .0;
-        batch = λ h i l t. part .1 .0 h i l t ∙ book-sum known hold (bookOf s) (part .0);
+        batch = λ h i l t. part .1 .0 h i l t ∙ book-sum known hold (bookOf s) (edition .kinds) (part .0);
       }
 
-  package-blocks : HoldDoses known → (room : ℕ) → needed (bookOf s) ≤ room → (r : LawfulPackage edition s)
+  package-blocks : HoldDoses known → (room : ℕ) → needed (edition .kinds) (bookOf s) ≤ room → (r : LawfulPackage edition s)
       → Blocks room (r .sound .H)
   package-blocks hold room fits r = (
     sound-parts s (r .sound),
@@ -136,7 +136,7 @@ module _ (edition : Edition) (s : List ℕ) where
           r .book,
           (
             λ h i l t.
-                r .batch h i l t ∙ sym (book-sum known hold (bookIn s (sectionAt s (r .sound .H))) (r .book)),
+                r .batch h i l t ∙ sym (book-sum known hold (bookIn s (sectionAt s (r .sound .H))) (edition .kinds) (r .book)),
             fits,
           ),
         ),
@@ -144,7 +144,7 @@ module _ (edition : Edition) (s : List ℕ) where
     ),
   )
 
-  package-lawful : HoldDoses known → (room : ℕ) → Blocks room H ↔ (LawfulPackage edition s × (needed (bookOf s) ≤ room))
+  package-lawful : HoldDoses known → (room : ℕ) → Blocks room H ↔ (LawfulPackage edition s × (needed (edition .kinds) (bookOf s) ≤ room))
   package-lawful hold room = (
     λ b. (blocks-package hold room b, b .1 .1 .1 .1 .1),
     λ (r, fits).

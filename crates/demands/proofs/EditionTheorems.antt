@@ -24,12 +24,12 @@ use Rattle.verify.specs.Digests.{digestCheck}
 use Rattle.book.specs.declared.dose.Dose.{Dose}
 use Rattle.book.specs.Kinds.{knows, isHeld}
 use Rattle.book.specs.Book.{places, bookCheck}
-use Rattle.book.specs.Doses.{dosesIn, doses, sumOf}
+use Rattle.book.specs.Doses.{dosesIn, sumOf}
 use Rattle.book.proofs.KindLaws.{held}
-use Rattle.book.proofs.KindTheorems.{kept-kinds}
+use Rattle.book.proofs.KindTheorems.{any-kinds, kept-kinds}
 use Rattle.buffer.specs.Buffer.{numbersOf}
 use Rattle.reading.specs.Editions.{Edition, hasBatch, batchTag}
-use Rattle.reading.specs.Reading.{bookOf, weightIn, sumCheck, bookPart, openedCheck, checksAt, answerAs, answerAt}
+use Rattle.reading.specs.Reading.{bookOf, weightIn, sumCheck, roomCheck, bookPart, openedCheck, checksAt, answerAs, answerAt}
 use Rattle.reading.specs.Buffers.{Form, roomIn, cells, leftAt}
 use Rattle.reading.proofs.AnswerLaws.{done, refused, pass-book}
 use Rattle.demands.specs.Editions.{Extends, batchLine, IsEdition, First, NoneLacks, lackingIn}
@@ -141,8 +141,11 @@ module _ (earlier later : Edition) (lawful : IsEdition earlier) (lawful′ : IsE
   -- 19 to 24
   part-agrees : (s : List ℕ) (header : Section) (room : ℕ)
       → Alike earlier later b (bookPart earlier s header room b) (bookPart later s header room b)
-  unfolding bookPart
-  part-agrees s header room = run _ _ _ _ book-agrees (run _ _ _ _ (sum-agrees s header (sumOf (doses b))) (inl refl))
+  unfolding bookPart roomCheck
+  part-agrees s header room =
+      let same = any-kinds (earlier .kinds) (later .kinds) b in
+      run _ _ _ _ book-agrees
+      (rw (same .0, same .1) (run _ _ _ _ (sum-agrees s header (sumOf (dosesIn (later .kinds) b))) (inl refl)))
 
 -- a reading that passed lacks no kind of its book
 pass-lacks-none : (edition : Edition) (s : List ℕ) (room : ℕ) → checksAt edition s room ≡ Pass

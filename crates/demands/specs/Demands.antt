@@ -11,7 +11,7 @@ use Rattle.entries.specs.Entries.{recordAt}
 use Rattle.package.specs.Package.{soundCheck, structureOf}
 use Rattle.lookups.specs.Lookup.{findBytes, findAnswer}
 use Rattle.lookups.specs.Theorems.{RecordFor, Shows}
-use Rattle.book.specs.Kinds.{lastEdition}
+use Rattle.book.specs.Kinds.{kindsOf, lastEdition}
 use Rattle.book.specs.KindTheorems.{SizedKinds}
 use Rattle.book.specs.Doses.{doses}
 use Rattle.buffer.specs.Buffer.{numbersOf}
@@ -44,13 +44,13 @@ abbrev pub Demand2 : Type 0
 Demand2 =
     (form : Form) (edition : ℕ) (s before : List ℕ) → 1 ≤ edition → edition ≤ lastEdition
     → (readAnswer edition s (roomIn form before) ≡ Done (length (doses (bookOf s))))
-    ↔ (LawfulPackage (editionOf edition) s × (needed (bookOf s) ≤ roomIn form before))
+    ↔ (LawfulPackage (editionOf edition) s × (needed (kindsOf edition) (bookOf s) ≤ roomIn form before))
 
 -- and of any edition (request 7) whose bodies come to kind mod 16 bytes
 abbrev pub AnyEdition : Type 0
 AnyEdition =
     (edition : Edition) → IsEdition edition → SizedKinds (edition .kinds) → (s : List ℕ) (room : ℕ)
-    → (checksAt edition s room ≡ Pass) ↔ (LawfulPackage edition s × (needed (bookOf s) ≤ room))
+    → (checksAt edition s room ≡ Pass) ↔ (LawfulPackage edition s × (needed (edition .kinds) (bookOf s) ≤ room))
 
 -- "Where size, lead and structures are sound": exactly where checks 2 to 13 and 28 pass,
 abbrev pub SoundExactly : Type 0

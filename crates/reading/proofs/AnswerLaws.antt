@@ -13,8 +13,9 @@ use Rattle.format.specs.declared.verdict.Answer.the-variants.{Done, Refused}
 use Rattle.format.specs.Verdicts.{check}
 use Rattle.format.proofs.VerdictLaws.{both-pass, inverted, both-inverted}
 use Rattle.package.specs.Package.{headerAt}
-use Rattle.book.specs.Kinds.{lastEdition}
+use Rattle.book.specs.Kinds.{kindsOf, lastEdition}
 use Rattle.book.specs.Doses.{doses}
+use Rattle.book.proofs.KindTheorems.{any-kinds}
 use Rattle.buffer.specs.Buffer.{numbersPerDose}
 use Rattle.reading.specs.Editions.{Edition, editionOf}
 use Rattle.reading.specs.Reading.{editionCheck, bookOf, needed, roomCheck, bookPart, openedCheck, checksAt, readingCheck}
@@ -44,11 +45,14 @@ unfolding checksAt openedCheck
 pass-book edition s room h = both-inverted _ _ (both-inverted _ _ (both-inverted _ _ h .1) .1) .1
 
 -- where the reading passes, the buffer has room
-pub pass-room : (edition : ℕ) (s : List ℕ) (room : ℕ) → readingCheck edition s room ≡ Pass → needed (bookOf s) ≤ room
+pub pass-room : (edition : ℕ) (s : List ℕ) (room : ℕ) → readingCheck edition s room ≡ Pass
+    → numbersPerDose * length (doses (bookOf s)) ≤ room
 unfolding readingCheck bookPart roomCheck
 pass-room edition s room h =
     let k = both-inverted _ _ (pass-book (editionOf edition) s room (both-inverted _ _ h .1)) in
-    leb-true _ _ (inverted _ _ _ _ (both-inverted _ _ (k .1) .1) .0)
+    let n : needed (kindsOf edition) (bookOf s) ≤ room = leb-true _ _ (inverted _ _ _ _ (both-inverted _ _ (k .1) .1) .0) in
+    let same = any-kinds (kindsOf edition) (kindsOf lastEdition) (bookOf s) .0 in
+    omega arith
 
 pub answer-room : (edition : ℕ) (s : List ℕ) (room : ℕ) {answer : Answer} {count : ℕ} → answer ≡ readAnswer edition s room
     → answer ≡ Done count → numbersPerDose * count ≤ room

@@ -27,7 +27,9 @@ use Rattle.verify.specs.Digests.{digestCheck}
 use Rattle.book.specs.declared.Weighed.{Weighed}
 use Rattle.book.specs.declared.Weighed.the-variants as weighed′
 use Rattle.book.specs.Doses.{doses, weighed}
+use Rattle.book.specs.Kinds.{kindsOf, lastEdition}
 use Rattle.book.proofs.PassLaws.{weighed-doses, weighed-unsound, few-doses}
+use Rattle.book.proofs.KindTheorems.{any-kinds}
 use Rattle.buffer.specs.Buffer.{numbersPerDose}
 use Rattle.reading.specs.declared.opened.Weighing.{Weighing}
 use Rattle.reading.specs.declared.opened.Weighing.the-variants.{Doses, Refused}
@@ -108,7 +110,8 @@ module _ (edition : ℕ) (s : List ℕ) (header : Section) (room : ℕ) (b : Lis
     unfolding bookPart roomCheck
     book-left =
         let d = weighed-doses edition b p h in
-        both-pass (d .0) ∙ rw (← d .1, ← d .2)
+        let k = any-kinds (kindsOf edition) (kindsOf lastEdition) b in
+        both-pass (d .0) ∙ rw (k .0, k .1, ← d .1, ← d .2)
 
     module _ {v : Verdict} (q : v ≡ sumCheck (editionOf edition) s header sum) where
       pub sum-refused : {number place : ℕ} → v ≡ Fail number place

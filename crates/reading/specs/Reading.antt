@@ -17,7 +17,7 @@ use Rattle.lookups.specs.Within.{bytesIn}
 use Rattle.catalogue.specs.Words.{int32, bin}
 use Rattle.rules.specs.Rules.{rulesCheck}
 use Rattle.verify.specs.Digests.{digestCheck}
-use Rattle.book.specs.Kinds.{knows, lastEdition}
+use Rattle.book.specs.Kinds.{Kinds, knows, lastEdition}
 use Rattle.book.specs.Book.{bookTag, bookCheck}
 use Rattle.book.specs.Doses.{dosesIn, doses, sumOf}
 use Rattle.buffer.specs.Buffer.{numbersPerDose}
@@ -47,16 +47,18 @@ sumCheck edition s header sum =
     cond (hasBatch edition) (check (eqb (weightIn s header) sum) 23 batchTag Pass) Pass
 
 -- 24 | dose buffer under 3 numbers per dose | numbers needed
-abbrev pub needed : List ℕ → ℕ
-needed book = numbersPerDose * length (doses book)
+abbrev pub needed : Kinds → List ℕ → ℕ
+needed kinds book = numbersPerDose * length (dosesIn kinds book)
 
-unfoldable pub roomCheck : ℕ → List ℕ → Verdict
-roomCheck room book = check (leb (needed book) room) 24 (needed book) Pass
+unfoldable pub roomCheck : Kinds → ℕ → List ℕ → Verdict
+roomCheck kinds room book = check (leb (needed kinds book) room) 24 (needed kinds book) Pass
 
--- 19 to 24 for a book; the number of its doses and their sum are the same by any kinds
+-- 19 to 24 for a book
 unfoldable pub bookPart : Edition → List ℕ → Section → ℕ → List ℕ → Verdict
 bookPart edition s header room book =
-    both (bookCheck (knows (edition .kinds)) book) (both (sumCheck edition s header (sumOf (doses book))) (roomCheck room book))
+    both (bookCheck (knows (edition .kinds)) book)
+    (both (sumCheck edition s header (sumOf (dosesIn (edition .kinds) book)))
+    (roomCheck (edition .kinds) room book))
 
 -- 14 to 18, 27 and 19 to 24 for a package's two structures and a book
 unfoldable pub openedCheck : Edition → List ℕ → Section → Section → ℕ → List ℕ → Verdict

@@ -16,7 +16,7 @@ use Rattle.package.specs.Lead.{leadCheck}
 use Rattle.package.specs.Package.{sizeCheck, structuresCheck, packageCheck}
 use Rattle.locales.specs.Locales.{localeCheck}
 use Rattle.book.specs.Kinds.{kindTable, kindsIn}
-use Rattle.book.specs.Book.{placesFrom, lotFrom, doseLawful, recordCheck, recordsCheck, lengthCheck, bookCheck}
+use Rattle.book.specs.Book.{placesFrom, lotFrom, weightLawful, recordCheck, recordsCheck, lengthCheck, bookCheck}
 use Rattle.book.specs.Doses.{dosesBy}
 use Rattle.buffer.specs.Buffer.{numbersOf}
 use Rattle.words.specs.Words.{wordAt, lowFirst, rotated, auxiliary, increased}
@@ -31,7 +31,7 @@ use Rattle.samples.specs.Written.{smallestRight}
 
 pub samples-right : T (allRight samples)
 unfolding be16At be32At sameBytes stringsFrom check both runFrom elementSize countRight dataEnd tagBefore entryCheck headerCheck
-    structureCheck localeCheck kindTable kindsIn placesFrom lotFrom doseLawful recordCheck recordsCheck lengthCheck bookCheck
+    structureCheck localeCheck kindTable kindsIn placesFrom lotFrom weightLawful recordCheck recordsCheck lengthCheck bookCheck
     dosesBy numbersOf
     findFrom wordAt lowFirst rotated auxiliary increased table assigned operated operations performed block blocks paddingBytes
     lengthBytes padded start output digest digestCheck bytesOf tagAmong repeatedIn repeatedAmong firstFrom
