@@ -168,6 +168,7 @@ READINGS = {
     'book_lot_0': book('AA 001B 000004E2 00000000'),
     'book_lot_most': book('AA 03E7 004C4B40 FFFFFFFF'),
     'book_three_kinds': book('AA 001B 000004E2 000112AB 86 0001 00000001 98 000E 00000320 0005 02 0007 AA 001B 00000002 00000001'),
+    'book_lot_behind_98': book('98 001B 000004E2 0005 AA 001B 000004E2 000112AB'),
     'book_lots_limit': accepted(LOT * 372 + bytes.fromhex('02 0007 00')),
     'check14_signature_1000': accepted(DOSE, signature={}, header={}).replace(struct.pack('>4I', 1000, 4, 0, 1), struct.pack('>4I', 999, 4, 0, 1), 1),
     'check14_20001': accepted(DOSE, drop=[20001]),

@@ -32,7 +32,7 @@ toleranced = 0x98 ∷ 0x00 ∷ 0x1B ∷ 0x00 ∷ 0x00 ∷ 0x04 ∷ 0xE2 ∷ 0x00
 abbrev pub cutShort : List ℕ
 cutShort = 0x14 ∷ 0x00 ∷ 0x00 ∷ []
 
--- kind AA with lot 0, with the highest lot, and one byte short; behind a kind 86, and before one
+-- kind AA with lot 0, with the highest lot, and one byte short; behind a kind 86, behind a kind 98, and before both
 abbrev pub noLot : List ℕ
 noLot = 0xAA ∷ 0x00 ∷ 0x1B ∷ 0x00 ∷ 0x00 ∷ 0x04 ∷ 0xE2 ∷ 0x00 ∷ 0x00 ∷ 0x00 ∷ 0x00 ∷ []
 
@@ -44,6 +44,9 @@ lotCut = 0xAA ∷ 0x00 ∷ 0x1B ∷ 0x00 ∷ 0x00 ∷ 0x04 ∷ 0xE2 ∷ 0x00 ∷
 
 abbrev pub lotBehind : List ℕ
 lotBehind = heaviest ++ highestLot
+
+abbrev pub lotBehind98 : List ℕ
+lotBehind98 = toleranced ++ highestLot
 
 abbrev pub lotBefore : List ℕ
 lotBefore = highestLot ++ toleranced ++ heaviest
@@ -67,6 +70,9 @@ books =
     ∷ record { edition = 1; bytes = lotBehind; verdict = Fail 20 7; doses = [] }
     ∷ record { edition = 2; bytes = lotBehind; verdict = Fail 20 7; doses = [] }
     ∷ record { edition = 3; bytes = lotBehind; verdict = Pass; doses = 27 ∷ 5000000 ∷ 0 ∷ 27 ∷ 1250 ∷ 4294967295 ∷ [] }
+    ∷ record { edition = 1; bytes = lotBehind98; verdict = Fail 20 0; doses = [] }
+    ∷ record { edition = 2; bytes = lotBehind98; verdict = Fail 20 9; doses = [] }
+    ∷ record { edition = 3; bytes = lotBehind98; verdict = Pass; doses = 27 ∷ 1250 ∷ 0 ∷ 27 ∷ 1250 ∷ 4294967295 ∷ [] }
     ∷ record {
       edition = 3;
       bytes = lotBefore;

@@ -167,6 +167,9 @@ fn lots() {
     read(b"book_three_kinds", 1);
     read(b"book_three_kinds", 2);
     read(b"book_three_kinds", 3);
+    read(b"book_lot_behind_98", 1);
+    read(b"book_lot_behind_98", 2);
+    read(b"book_lot_behind_98", 3);
     read(b"book_lots_limit", 3);
     read(b"check14_20002", 3);
     read(b"check15_20002_type", 3);
