@@ -1,8 +1,7 @@
 -- Laws of lists of lines. A line of a list above a tag has a higher one (above); the rest of a rising list rises
--- (rest-rises). Of the lines that an edition has: their tags rise (rises; of each part rises-signature, rises-header); a line
--- of the catalogue is listed where the edition has it (listed-signature, listed-header); the edition has each (had-in), and
--- each is as a test of the part says (had); another edition that has one lists it (listed-had), and a later one keeps them
--- (kept).
+-- (rest-rises). Of the lines that an edition has: their tags rise (rises; of each part rises-signature, rises-header); a row
+-- that the edition has is listed (listed-at; by its number in the catalogue listed-signature, listed-header); what holds of
+-- each such row's line holds of each line listed (each-had); a later edition keeps them (kept).
 use Prim.Native.Nat.{ℕ, zero, suc, _≤_, _<_, _-_}
 use mathlib.Core.Path.{_≡_, refl, sym, ap, subst}
 use mathlib.Core.Logic.{inl, inr}
@@ -13,9 +12,9 @@ use native.Mathlib.Omega.{arith}
 use borrow.Author.Tests.{leb-true, le-leb}
 use Rattle.catalogue.specs.declared.Line.{Line}
 use Rattle.catalogue.specs.Catalogue.{signatureLines, headerLines, signatureCount, lineCount}
-use Rattle.catalogue.specs.Catalogue.{lineOf, lineAt, inEdition, isRising, every}
-use Rattle.catalogue.specs.Lists.{Listed, Above, Rising, KeepsLines, linesHad, signatureOf, headerOf}
-use Rattle.catalogue.proofs.CatalogueLaws.{length-signature, length-header, signature-at, header-at, every-at}
+use Rattle.catalogue.specs.Catalogue.{lineOf, lineAt, inEdition, isRising}
+use Rattle.catalogue.specs.Lists.{Listed, Above, Rising, KeepsLines, hadLine, linesHad, signatureOf, headerOf}
+use Rattle.catalogue.proofs.CatalogueLaws.{length-signature, length-header, signature-at, header-at}
 use Rattle.catalogue.proofs.CatalogueLaws.{rising-parts, parts-rise}
 
 pub above : (tag : ℕ) (lines : List Line) → Above tag lines → (line : Line) → Listed line lines → tag < line .tag
@@ -40,7 +39,7 @@ module _ (edition : ℕ) where
       go (inEdition edition (lineOf b)) m (had-above b rest (p .1))
     where
       go : (c : Bool) → tag < lineOf b .tag → ((least : ℕ) → least ≤ lineOf b .tag → Above least (linesHad edition rest))
-          → Above tag (cond c (lineOf b ∷ linesHad edition rest) (linesHad edition rest))
+          → Above tag (cond c (hadLine (lineOf b) ∷ linesHad edition rest) (linesHad edition rest))
       go true m behind = (m, behind (lineOf b .tag) (omega arith))
       go false m behind = behind tag (omega arith)
 
@@ -50,9 +49,9 @@ module _ (edition : ℕ) where
   rises (a ∷ rest) t = go (inEdition edition (lineOf a)) (had-above a rest t (lineOf a .tag) (omega arith))
     where
       go : (c : Bool) → Above (lineOf a .tag) (linesHad edition rest)
-          → Rising (cond c (lineOf a ∷ linesHad edition rest) (linesHad edition rest))
+          → Rising (cond c (hadLine (lineOf a) ∷ linesHad edition rest) (linesHad edition rest))
       go true behind = behind
-      go false behind = rest-rises (lineOf a) (linesHad edition rest) behind
+      go false behind = rest-rises (hadLine (lineOf a)) (linesHad edition rest) behind
 
   pub rises-signature : Rising (signatureOf edition)
   rises-signature = rises signatureLines (parts-rise .0)
@@ -61,31 +60,31 @@ module _ (edition : ℕ) where
   rises-header = rises headerLines (parts-rise .1)
 
   -- a row that the edition has is listed
-  listed-at : (rows : List (List ℕ)) (i : ℕ) → i < length rows → inEdition edition (lineOf (getD rows i [])) ≡ true
-      → Listed (lineOf (getD rows i [])) (linesHad edition rows)
+  pub listed-at : (rows : List (List ℕ)) (i : ℕ) → i < length rows → inEdition edition (lineOf (getD rows i [])) ≡ true
+      → Listed (hadLine (lineOf (getD rows i []))) (linesHad edition rows)
   unfolding linesHad
   listed-at [] i h e = absurd (omega arith)
   listed-at (a ∷ rest) zero h e = rw e (inl refl)
-  listed-at (a ∷ rest) (suc i) h e = go (inEdition edition (lineOf a)) (listed-at rest i (omega arith) e)
+  listed-at (a ∷ rest) (suc i) h e = go (inEdition edition (lineOf a)) _ (listed-at rest i (omega arith) e)
     where
-      go : (c : Bool) → Listed (lineOf (getD rest i [])) (linesHad edition rest)
-          → Listed (lineOf (getD rest i [])) (cond c (lineOf a ∷ linesHad edition rest) (linesHad edition rest))
-      go true l = inr l
-      go false l = l
+      go : (c : Bool) (line : Line) → Listed line (linesHad edition rest)
+          → Listed line (cond c (hadLine (lineOf a) ∷ linesHad edition rest) (linesHad edition rest))
+      go true line l = inr l
+      go false line l = l
 
   pub listed-signature : (i : ℕ) → i < signatureCount → inEdition edition (lineAt i) ≡ true
-      → Listed (lineAt i) (signatureOf edition)
+      → Listed (hadLine (lineAt i)) (signatureOf edition)
   listed-signature i h =
       rw (signature-at i h) (listed-at signatureLines i (rw length-signature h))
 
   pub listed-header : (i : ℕ) → signatureCount ≤ i → i < lineCount → inEdition edition (lineAt i) ≡ true
-      → Listed (lineAt i) (headerOf edition)
+      → Listed (hadLine (lineAt i)) (headerOf edition)
   listed-header i from h =
       rw (header-at i from) (listed-at headerLines (i - signatureCount) (omega (arith, length-header)))
 
-  -- what holds of each row that the edition has holds of each line listed
-  each-had : (P : Line → Type 0) (rows : List (List ℕ))
-      → ((i : ℕ) → i < length rows → inEdition edition (lineOf (getD rows i [])) ≡ true → P (lineOf (getD rows i [])))
+  -- what holds of the line of each row that the edition has holds of each line listed
+  pub each-had : (P : Line → Type 0) (rows : List (List ℕ))
+      → ((i : ℕ) → i < length rows → inEdition edition (lineOf (getD rows i [])) ≡ true → P (hadLine (lineOf (getD rows i []))))
       → (line : Line) → Listed line (linesHad edition rows) → P line
   unfolding linesHad
   each-had P [] f line l = absurd l
@@ -93,27 +92,14 @@ module _ (edition : ℕ) where
       go (inEdition edition (lineOf a)) refl l (each-had P rest (λ i h. f (suc i) (omega arith)) line)
     where
       go : (c : Bool) → inEdition edition (lineOf a) ≡ c
-          → Listed line (cond c (lineOf a ∷ linesHad edition rest) (linesHad edition rest))
+          → Listed line (cond c (hadLine (lineOf a) ∷ linesHad edition rest) (linesHad edition rest))
           → (Listed line (linesHad edition rest) → P line) → P line
       go true e (inl q) behind = subst P (sym q) (f 0 (omega arith) e)
       go true e (inr m) behind = behind m
       go false e m behind = behind m
 
-  pub had-in : (rows : List (List ℕ)) (line : Line) → Listed line (linesHad edition rows) → inEdition edition line ≡ true
-  had-in rows = each-had (λ (line : Line). inEdition edition line ≡ true) rows (λ i h e. e)
-
-pub had : (test : Line → Bool) (rows : List (List ℕ)) → every test rows ≡ true
-    → (edition : ℕ) (line : Line) → Listed line (linesHad edition rows) → test line ≡ true
-had test rows t edition = each-had edition (λ (line : Line). test line ≡ true) rows (λ i h e. every-at test rows t i h)
-
-pub listed-had : (edition other : ℕ) (rows : List (List ℕ)) (line : Line) → Listed line (linesHad edition rows)
-    → inEdition other line ≡ true → Listed line (linesHad other rows)
-listed-had edition other rows =
-    each-had edition (λ (line : Line). inEdition other line ≡ true → Listed line (linesHad other rows)) rows
-    (λ i h e. listed-at other rows i h)
-
 pub kept : (edition later : ℕ) → edition ≤ later → (rows : List (List ℕ))
     → KeepsLines (linesHad edition rows) (linesHad later rows)
-kept edition later l rows line h =
-    let k = leb-true (line .status) edition (had-in edition rows line h) in
-    listed-had edition later rows line h (le-leb (line .status) later (omega arith))
+kept edition later l rows =
+    each-had edition (λ (line : Line). Listed line (linesHad later rows)) rows
+    (λ i h e. let k = leb-true _ edition e in listed-at later rows i h (le-leb _ later (omega arith)))

@@ -6,7 +6,8 @@ use mathlib.Core.Logic.{_⊎_}
 use mathlib.Core.List.{List, [], _∷_}
 use mathlib.Core.Bool.{cond}
 use Rattle.catalogue.specs.declared.Line.{Line}
-use Rattle.catalogue.specs.Catalogue.{signatureLines, headerLines, lineOf, inEdition}
+use Rattle.catalogue.specs.Words.{optional, required}
+use Rattle.catalogue.specs.Catalogue.{signatureLines, headerLines, lineOf, inEdition, isRequired}
 
 abbrev pub Listed : Line → List Line → Type 0
 Listed line [] = ⊥
@@ -26,11 +27,16 @@ Rising (line ∷ rest) = Above (line .tag) rest
 abbrev pub KeepsLines : List Line → List Line → Type 0
 KeepsLines earlier later = (line : Line) → Listed line earlier → Listed line later
 
+-- a line as an edition has it: required or not, without the edition with which it begins
+abbrev pub hadLine : Line → Line
+hadLine line =
+    record { tag = line .tag; ty = line .ty; count = line .count; status = cond (isRequired line) required optional }
+
 -- the lines of a part of the catalogue that an edition has, in its order
 unfoldable pub linesHad : ℕ → List (List ℕ) → List Line
 linesHad edition [] = []
 linesHad edition (a ∷ rest) =
-    cond (inEdition edition (lineOf a)) (lineOf a ∷ linesHad edition rest) (linesHad edition rest)
+    cond (inEdition edition (lineOf a)) (hadLine (lineOf a) ∷ linesHad edition rest) (linesHad edition rest)
 
 abbrev pub signatureOf : ℕ → List Line
 signatureOf edition = linesHad edition signatureLines

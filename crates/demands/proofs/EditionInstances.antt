@@ -1,18 +1,20 @@
 -- The editions by their numbers are editions as request 7 states them (editions-lawful), each extends those before
 -- (editions-extend), and a line that one adds is the batch weight's, to edition 1's (adds-batch).
-use Prim.Native.Nat.{ℕ, _≤_}
+use Prim.Native.Nat.{ℕ, _≤_, _<_}
 use mathlib.Core.Path.{_≡_, refl}
 use mathlib.Core.Logic.{_↔_, Iff·rfl, inl, inr}
 use mathlib.Core.List.{List, [], _∷_}
 use mathlib.Core.Bool.{Bool, true, false, cond, _&&_, and-eq-true-iff}
+use lib.ListN.{length, getD}
 use lib.Dec.{eqb, leb}
 use native.Mathlib.Omega.{arith}
 use borrow.Author.Tests.{leb-true, le-leb, eqb-true, eq-eqb}
 use Rattle.catalogue.specs.declared.Line.{Line}
 use Rattle.catalogue.specs.Words.{int32, requiredFrom2}
-use Rattle.catalogue.specs.Catalogue.{signatureLines, headerLines, inEdition, every}
-use Rattle.catalogue.specs.Lists.{linesHad}
-use Rattle.catalogue.proofs.ListLaws.{rises-signature, rises-header, had, listed-had, kept}
+use Rattle.catalogue.specs.Catalogue.{signatureLines, headerLines, lineOf, inEdition, every}
+use Rattle.catalogue.specs.Lists.{hadLine, linesHad}
+use Rattle.catalogue.proofs.CatalogueLaws.{every-at}
+use Rattle.catalogue.proofs.ListLaws.{rises-signature, rises-header, listed-at, each-had, kept}
 use Rattle.book.specs.Kinds.{Part, Lot, Other, Unknown, Holds, KindRow, kindTable, kindsIn}
 use Rattle.book.proofs.KindLaws.{kinds-kept}
 use Rattle.reading.specs.Editions.{batchTag}
@@ -73,10 +75,10 @@ batch-parts : (line : Line)
     → (isBatch line ≡ true) ↔ (((line .ty ≡ int32) × (line .count ≡ 1)) × (line .status ≡ requiredFrom2))
 batch-parts line = simp (and-eq-true-iff, eqb-iff) Iff·rfl
 
-is-batch : (line : Line) → line .tag ≡ batchTag → isFirstOrBatch line ≡ true → line ≡ batchLine
+is-batch : (line : Line) → line .tag ≡ batchTag → isFirstOrBatch line ≡ true → hadLine line ≡ batchLine
 is-batch line t h =
     let k = batch-parts line .0 (rw (eq-eqb _ _ t) at h) in
-    λ i. record { tag = t i; ty = k .0 .0 i; count = k .0 .1 i; status = k .1 i }
+    λ i. hadLine (record { tag = t i; ty = k .0 .0 i; count = k .0 .1 i; status = k .1 i })
 
 pub editions-lawful : EditionsLawful
 editions-lawful edition l =
@@ -85,28 +87,38 @@ editions-lawful edition l =
       headerRises = rises-header edition;
       keepsFirst = editions-extend 1 edition l;
       weighed = λ kind parts w. begins edition kind parts w kindTable table-begins;
-      batch = λ line h t. is-batch line t (had isFirstOrBatch headerLines header-first edition line h);
+      batch =
+          each-had edition (λ (line : Line). line .tag ≡ batchTag → line ≡ batchLine) headerLines
+          (λ i h e t. is-batch (lineOf (getD headerLines i [])) t (every-at isFirstOrBatch headerLines header-first i h));
     }
 
--- the earlier edition does not have a line that is added
-not-had : (earlier later : ℕ) (rows : List (List ℕ)) (line : Line) → Added (linesHad earlier rows) (linesHad later rows) line
-    → inEdition earlier line ≡ true → ⊥
-not-had earlier later rows line a h = a .without line (listed-had later earlier rows line (a .listed) h) refl
+-- what holds of the line of each row that the earlier edition does not have holds of each line added
+each-added : (earlier later : ℕ) (rows : List (List ℕ)) (P : Line → Type 0)
+    → ((i : ℕ) → i < length rows → (lineOf (getD rows i []) .status ≤ earlier → ⊥) → P (hadLine (lineOf (getD rows i []))))
+    → (line : Line) → Added (linesHad earlier rows) (linesHad later rows) line → P line
+each-added earlier later rows P f line a =
+    each-had later (λ (line : Line). Added (linesHad earlier rows) (linesHad later rows) line → P line) rows
+    (λ i h e b. f i h (λ m. b .without _ (listed-at earlier rows i h (le-leb _ _ m)) refl))
+    line (a .listed) a
+
+-- every edition has a row that edition 1 has; a row of the header that one does not have is the batch weight's, and it is 1
+module _ (edition : ℕ) (l : 1 ≤ edition) (row : Line) where
+  has-first : inEdition 1 row ≡ true → row .status ≤ edition
+  has-first h = let k = leb-true (row .status) 1 h in omega arith
+
+  lacks-batch : (b : Bool) → eqb (row .tag) batchTag ≡ b → cond b (isBatch row) (inEdition 1 row) ≡ true
+      → (row .status ≤ edition → ⊥) → (edition ≡ 1) × (row .tag ≡ batchTag)
+  lacks-batch true e h n = let k = batch-parts row .0 h .1 in (omega arith, eqb-true _ _ e)
+  lacks-batch false e h n = absurd (n (has-first h))
 
 pub adds-batch : AddsBatch
 adds-batch earlier later l line (inl a) =
-    let k = leb-true (line .status) 1 (had (inEdition 1) signatureLines signature-first later line (a .listed)) in
-    absurd (not-had earlier later signatureLines line a (le-leb (line .status) earlier (omega arith)))
+    absurd (each-added earlier later signatureLines (λ (line : Line). ⊥)
+    (λ i h n.
+    n (has-first earlier l (lineOf (getD signatureLines i [])) (every-at (inEdition 1) signatureLines signature-first i h)))
+    line a)
 adds-batch earlier later l line (inr a) =
-    go (eqb (line .tag) batchTag) refl (had isFirstOrBatch headerLines header-first later line (a .listed))
-  where
-    lacked : line .status ≤ earlier → ⊥
-    lacked m = not-had earlier later headerLines line a (le-leb _ _ m)
-
-    go : (b : Bool) → eqb (line .tag) batchTag ≡ b → cond b (isBatch line) (inEdition 1 line) ≡ true
-        → (earlier ≡ 1) × (line .tag ≡ batchTag)
-    go true e h =
-        let k = batch-parts line .0 h .1 in
-        let n : line .status ≤ earlier → ⊥ = lacked in
-        (omega arith, eqb-true _ _ e)
-    go false e h = let k = leb-true (line .status) 1 h in absurd (lacked (omega arith))
+    each-added earlier later headerLines (λ (line : Line). (earlier ≡ 1) × (line .tag ≡ batchTag))
+    (λ i h. lacks-batch earlier l (lineOf (getD headerLines i [])) _ refl
+    (every-at isFirstOrBatch headerLines header-first i h))
+    line a

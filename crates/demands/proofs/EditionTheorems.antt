@@ -34,7 +34,7 @@ use Rattle.reading.specs.Buffers.{Form, roomIn, cells, leftAt}
 use Rattle.reading.proofs.AnswerLaws.{done, refused, pass-book}
 use Rattle.demands.specs.Editions.{Extends, batchLine, IsEdition, First, NoneLacks, lackingIn}
 use Rattle.demands.specs.Editions.{Added, AddsLine, ByAdded, EditionsAgree}
-use Rattle.demands.proofs.AgreementLaws.{Agree, same-first, agree-both}
+use Rattle.demands.proofs.AgreementLaws.{Related, same-first, agree-both}
 use Rattle.demands.proofs.BookAgreement.{records-agree, passed-none}
 use Rattle.demands.proofs.LineAgreement.{Refuses, refuses-stays, ByLine, lines-agree}
 use Rattle.demands.proofs.NumberLawful.{has-line}
@@ -51,7 +51,7 @@ StopsAdded earlier later v =
 
 -- agreement over a book
 abbrev Alike : Edition → Edition → List ℕ → Verdict → Verdict → Type 0
-Alike earlier later b v w = Agree (Stops earlier b) (StopsAdded earlier later) v w
+Alike earlier later b v w = Related (Stops earlier b) (StopsAdded earlier later) v w
 
 -- what the earlier knows the later knows
 known-kept : (earlier later : Edition) → Extends earlier later → (kind : ℕ) → knows (earlier .kinds) kind ≡ true

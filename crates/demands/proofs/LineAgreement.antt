@@ -2,7 +2,7 @@
 -- at a line that it adds (lines-agree).
 use Prim.Native.Nat.{ℕ, _<_}
 use mathlib.Core.Path.{_≡_, refl, ap}
-use mathlib.Core.Logic.{_⊎_, inl, inr, _≢_}
+use mathlib.Core.Logic.{_⊎_, inl, inr, ⊎-map, _≢_}
 use mathlib.Core.List.{List, [], _∷_}
 use mathlib.Core.Bool.{Bool, true, false, not}
 use native.Mathlib.Omega.{arith}
@@ -34,16 +34,8 @@ refuses-stays v w tag (inl h) = inl (both-fail w h)
 refuses-stays v w tag (inr h) = inr (both-fail w h)
 
 refusal : (line : Line) (found : Tagged) → (lineCheckAs line found ≡ Pass) ⊎ Refuses (lineCheckAs line found) (line .tag)
-refusal line Absent = sorted (tried (not (isRequired line)) 14 (line .tag))
-  where
-    sorted : {v : Verdict} → (v ≡ Pass) ⊎ (v ≡ Fail 14 (line .tag)) → (v ≡ Pass) ⊎ Refuses v (line .tag)
-    sorted (inl h) = inl h
-    sorted (inr h) = inr (inl h)
-refusal line (Present e) = sorted (tried (isAsLine line (e .ty) (e .count)) 15 (line .tag))
-  where
-    sorted : {v : Verdict} → (v ≡ Pass) ⊎ (v ≡ Fail 15 (line .tag)) → (v ≡ Pass) ⊎ Refuses v (line .tag)
-    sorted (inl h) = inl h
-    sorted (inr h) = inr (inr h)
+refusal line Absent = ⊎-map (λ h. h) inl (tried (not (isRequired line)) 14 (line .tag))
+refusal line (Present e) = ⊎-map (λ h. h) inr (tried (isAsLine line (e .ty) (e .count)) 15 (line .tag))
 
 module _ (look : Look) where
   abbrev pub ByLine : List Line → List Line → Verdict → Type 0

@@ -23,6 +23,7 @@ use Rattle.index.specs.Lookup.{taggedIn, entryAt, foundBytes}
 use Rattle.structure.specs.Structure.{sectionAt}
 use Rattle.catalogue.specs.declared.Line.{Line}
 use Rattle.catalogue.specs.Catalogue.{signatureLines, headerLines, signatureCount, lineCount, catalogue, lineAt, inEdition}
+use Rattle.catalogue.specs.Lists.{hadLine}
 use Rattle.catalogue.proofs.ListLaws.{listed-signature, listed-header}
 use Rattle.rules.specs.Rules.{sizeTagCheck}
 use Rattle.reading.specs.Editions.{Edition, hasLine, batchTag}
@@ -47,7 +48,7 @@ pub record TextLines (s : List ℕ) (header : Section) : Type 0 where
   pub directories : WhereTagged s header 1118 (λ (e : IndexRecord). e .ty ≡ 8)
 
 -- the batch weight's
-abbrev pub BatchLine : List ℕ → Section → Type 0
+abbrev BatchLine : List ℕ → Section → Type 0
 BatchLine s header = HasTag s header batchTag × WhereTagged s header batchTag (λ (e : IndexRecord). e .ty ≡ 4)
 
 -- the digest's
@@ -72,11 +73,12 @@ has-line tag (first ∷ rest) = go (eqb (first .tag) tag) refl (has-line tag res
 -- by their numbers in the catalogue
 module _ (edition : Edition) (is : IsEdition edition) (s : List ℕ) (signature header : Section)
     (lines : LawfulLines edition s signature header) where
-  in-signature : (i : ℕ) → i < signatureCount → inEdition 1 (lineAt i) ≡ true → LawfulLine s signature (lineAt i)
-  in-signature i l h = lines .0 (lineAt i) (is .keepsFirst .signature (lineAt i) (listed-signature 1 i l h))
+  in-signature : (i : ℕ) → i < signatureCount → inEdition 1 (lineAt i) ≡ true → LawfulLine s signature (hadLine (lineAt i))
+  in-signature i l h = lines .0 (hadLine (lineAt i)) (is .keepsFirst .signature (hadLine (lineAt i)) (listed-signature 1 i l h))
 
-  in-header : (i : ℕ) → signatureCount ≤ i → i < lineCount → inEdition 1 (lineAt i) ≡ true → LawfulLine s header (lineAt i)
-  in-header i l m h = lines .1 (lineAt i) (is .keepsFirst .header (lineAt i) (listed-header 1 i l m h))
+  in-header : (i : ℕ) → signatureCount ≤ i → i < lineCount → inEdition 1 (lineAt i) ≡ true
+      → LawfulLine s header (hadLine (lineAt i))
+  in-header i l m h = lines .1 (hadLine (lineAt i)) (is .keepsFirst .header (hadLine (lineAt i)) (listed-header 1 i l m h))
 
   pub size-there : HasTag s signature 1000
   unfolding lineAt catalogue signatureLines headerLines

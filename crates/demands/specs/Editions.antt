@@ -8,7 +8,7 @@ use mathlib.Core.Bool.{Bool, cond, not, _&&_}
 use Rattle.format.specs.declared.verdict.Answer.{Answer}
 use Rattle.format.specs.declared.verdict.Answer.the-variants.{Done, Refused}
 use Rattle.catalogue.specs.declared.Line.{Line}
-use Rattle.catalogue.specs.Words.{int32, requiredFrom2}
+use Rattle.catalogue.specs.Words.{int32, required}
 use Rattle.catalogue.specs.Lists.{Listed, Rising, KeepsLines}
 use Rattle.book.specs.Kinds.{isWeighed, Part, Oxide, Milligrams, Holds, knows, lastEdition}
 use Rattle.book.specs.Book.{kindAt, places}
@@ -29,7 +29,7 @@ BeginsDose parts = (rest : List Part) × (parts ≡ Oxide ∷ Milligrams ∷ res
 
 -- the line of the batch weight: int32, count 1, required
 abbrev pub batchLine : Line
-batchLine = record { tag = batchTag; ty = int32; count = 1; status = requiredFrom2 }
+batchLine = record { tag = batchTag; ty = int32; count = 1; status = required }
 
 -- an edition: any catalogue and set of kinds
 pub record IsEdition (edition : Edition) : Type 0 where

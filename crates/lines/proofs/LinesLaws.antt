@@ -5,17 +5,22 @@ use mathlib.Core.Path.{_≡_, refl, sym, ap, _∙_}
 use mathlib.Core.List.{List, [], _∷_}
 use mathlib.Core.Bool.{Bool, true, false, cond}
 use lib.ListN.{length, getD}
+use lib.Dec.{leb}
 use native.Mathlib.Omega.{arith}
 use Rattle.format.specs.declared.verdict.Verdict.{Verdict}
 use Rattle.format.specs.declared.verdict.Verdict.the-variants.{Pass, Fail}
 use Rattle.format.specs.Verdicts.{both}
 use Rattle.format.proofs.VerdictLaws.{both-pass, both-fail}
 use Rattle.catalogue.specs.declared.Line.{Line}
+use Rattle.catalogue.specs.Words.{optional, required}
 use Rattle.catalogue.specs.Catalogue.{signatureLines, headerLines, signatureCount, lineCount, lineOf, lineAt, inEdition}
-use Rattle.catalogue.specs.Lists.{linesHad, signatureOf, headerOf}
+use Rattle.catalogue.specs.Catalogue.{isRequired, isAsLine}
+use Rattle.catalogue.specs.Lists.{hadLine, linesHad, signatureOf, headerOf}
 use Rattle.catalogue.proofs.CatalogueLaws.{length-signature, length-header, signature-at, header-at}
+use Rattle.index.specs.declared.Tagged.{Tagged}
+use Rattle.index.specs.declared.Tagged.the-variants.{Present, Absent}
 use Rattle.tags.specs.Tags.{Look}
-use Rattle.lines.specs.Lines.{lineCheck, lineIf, linesFrom, linesOf}
+use Rattle.lines.specs.Lines.{lineCheckAs, lineCheck, lineIf, linesFrom, linesOf}
 
 module _ (line : ℕ → Line) (hasLine : Line → Bool) (look : Look) where
   none : (i : ℕ) → linesFrom line hasLine look 0 i ≡ Pass
@@ -49,6 +54,16 @@ module _ (line : ℕ → Line) (hasLine : Line → Bool) (look : Look) where
     unfolding linesFrom
     spent l = let k : to - i ≡ 0 = omega arith in sym (rw k at inv)
 
+-- 14 and 15 do not ask with which edition a line begins
+same-required : (b : Bool) → leb required (cond b required optional) ≡ b
+same-required true = refl
+same-required false = refl
+
+same-check : (line : Line) (found : Tagged) → lineCheckAs line found ≡ lineCheckAs (hadLine line) found
+unfolding isAsLine
+same-check line Absent = rw (same-required (isRequired line))
+same-check line (Present e) = refl
+
 -- a table that has the lines of these rows from number i on
 abbrev Has : (ℕ → Line) → List (List ℕ) → ℕ → Type 0
 Has line rows i = (n k : ℕ) → n ≡ i + k → k < length rows → line n ≡ lineOf (getD rows k [])
@@ -65,8 +80,8 @@ module _ (edition : ℕ) (look : Look) where
     where
       go : (b : Bool) → linesFrom line (inEdition edition) look (length rest) (i + 1) ≡ linesOf look (linesHad edition rest)
           → both (cond b (lineCheck look (lineOf a)) Pass) (linesFrom line (inEdition edition) look (length rest) (i + 1))
-          ≡ linesOf look (cond b (lineOf a ∷ linesHad edition rest) (linesHad edition rest))
-      go true h = ap (both (lineCheck look (lineOf a))) h
+          ≡ linesOf look (cond b (hadLine (lineOf a) ∷ linesHad edition rest) (linesHad edition rest))
+      go true h = rw (same-check (lineOf a) (look (lineOf a .tag)), h)
       go false h = both-pass refl ∙ h
 
   pub of-signature : {r : Verdict} → r ≡ linesFrom lineAt (inEdition edition) look (signatureCount - 0) 0

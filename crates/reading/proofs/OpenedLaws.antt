@@ -17,7 +17,7 @@ use Rattle.format.specs.Verdicts.{check, both}
 use Rattle.format.proofs.VerdictLaws.{both-pass, both-fail}
 use Rattle.catalogue.specs.declared.Line.{Line}
 use Rattle.catalogue.specs.Catalogue.{signatureLines, headerLines, catalogue, lineOf, lineAt, inEdition}
-use Rattle.catalogue.specs.Lists.{linesHad}
+use Rattle.catalogue.specs.Lists.{hadLine, linesHad}
 use Rattle.catalogue.specs.Words.{int32}
 use Rattle.lookups.specs.Within.{bytesIn}
 use Rattle.package.specs.declared.Opened.{Opened}
@@ -58,7 +58,7 @@ unfolding hasLine linesHad
 had-row edition tag a rest = go (inEdition edition (lineOf a)) (eqb (lineOf a .tag) tag) refl
   where
     go : (h t : Bool) → eqb (lineOf a .tag) tag ≡ t
-        → hasLine tag (cond h (lineOf a ∷ linesHad edition rest) (linesHad edition rest))
+        → hasLine tag (cond h (hadLine (lineOf a) ∷ linesHad edition rest) (linesHad edition rest))
         ≡ (cond (eqb (lineOf a .tag) tag) h false || hasLine tag (linesHad edition rest))
     go true true e = rw e
     go true false e = rw e
