@@ -27,7 +27,7 @@ use Rattle.demands.specs.Lawful.{LawfulGroups, LawfulTexts, LawfulBook, 
 use Rattle.demands.specs.Editions.{IsEdition}
 use Rattle.demands.specs.Demands.{Demand2, AnyEdition}
 use Rattle.reading.proofs.AnswerLaws.{done, at-known}
-use Rattle.demands.proofs.PassIff.{last-iff, both-iff, then-iff, leb-iff}
+use Rattle.demands.proofs.PassIff.{last-iff, then-iff, leb-iff}
 use Rattle.demands.proofs.PackageLawful.{Parts, parts-lawful, parts-sound, sound-parts, start-is}
 use Rattle.demands.proofs.FoundLawful.{Apart}
 use Rattle.demands.proofs.LineLawful.{lines-lawful}

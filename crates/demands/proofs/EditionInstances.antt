@@ -15,10 +15,9 @@ use Rattle.catalogue.specs.Catalogue.{signatureLines, headerLines, lineOf, inEd
 use Rattle.catalogue.specs.Lists.{hadLine, linesHad}
 use Rattle.catalogue.proofs.CatalogueLaws.{every-at}
 use Rattle.catalogue.proofs.ListLaws.{rises-signature, rises-header, listed-at, each-had, kept}
-use Rattle.book.specs.Kinds.{Part, Lot, Other, Unknown, Holds, KindRow, kindTable, kindsIn}
-use Rattle.book.proofs.KindLaws.{kinds-kept}
+use Rattle.book.specs.Kinds.{Part, Lot, Other, kindTable}
+use Rattle.book.proofs.KindLaws.{kinds-kept, EachRow, each-kind}
 use Rattle.reading.specs.Editions.{batchTag}
-use Rattle.demands.specs.Lawful.{Each}
 use Rattle.demands.specs.Editions.{BeginsDose, batchLine, Added, EditionsLawful, EditionsExtend, AddsBatch}
 use Rattle.demands.proofs.PassIff.{eqb-iff}
 
@@ -30,31 +29,16 @@ editions-extend earlier later l =
       kinds = λ kind parts. kinds-kept earlier later l kind parts kindTable;
     }
 
--- a row of the table of kinds: where it is weighed, its body begins with a dose
-abbrev Begins : KindRow → Type 0
-Begins r = 128 ≤ r .kind → BeginsDose (r .body)
+-- where a row of the table of kinds is weighed, its body begins with a dose
+abbrev Begins : ℕ → List Part → Type 0
+Begins kind parts = 128 ≤ kind → BeginsDose parts
 
-table-begins : Each kindTable Begins
+table-begins : EachRow Begins kindTable
 unfolding kindTable
 table-begins = (
   λ w. absurd (omega arith),
   (λ w. ([], refl), (λ w. absurd (omega arith), (λ w. (Other 2 ∷ [], refl), (λ w. (Lot ∷ [], refl), tt)))),
 )
-
-module _ (edition kind : ℕ) (parts : List Part) (w : 128 ≤ kind) where
-  begins : (rows : List KindRow) → Each rows Begins → kindsIn rows edition kind ≡ Holds parts → BeginsDose parts
-  unfolding kindsIn
-  begins [] all h = let z : _≡_ {A = ℕ} 0 1 = cc in absurd (omega arith)
-  begins (r ∷ rest) all h = go (eqb kind (r .kind)) (leb (r .edition) edition) refl (begins rest (all .1)) h
-    where
-      go : (same has : Bool) → eqb kind (r .kind) ≡ same → (kindsIn rest edition kind ≡ Holds parts → BeginsDose parts)
-          → cond same (cond has (Holds (r .body)) Unknown) (kindsIn rest edition kind) ≡ Holds parts → BeginsDose parts
-      go true true e behind k =
-          let q = eqb-true kind (r .kind) e in
-          let p : r .body ≡ parts = cc in
-          rw p at (all .0 (omega arith))
-      go true false e behind k = let z : _≡_ {A = ℕ} 0 1 = cc in absurd (omega arith)
-      go false has e behind k = behind k
 
 -- tests of the catalogue: edition 1 has every line of the signature, and of the header every one but the batch weight's
 abbrev isBatch : Line → Bool
@@ -86,7 +70,7 @@ editions-lawful edition l =
       signatureRises = rises-signature edition;
       headerRises = rises-header edition;
       keepsFirst = editions-extend 1 edition l;
-      weighed = λ kind parts w. begins edition kind parts w kindTable table-begins;
+      weighed = λ kind parts w h. each-kind Begins kindTable table-begins edition kind parts h w;
       batch =
           each-had edition (λ (line : Line). line .tag ≡ batchTag → line ≡ batchLine) headerLines
           (λ i h e t. is-batch (lineOf (getD headerLines i [])) t (every-at isFirstOrBatch headerLines header-first i h));

@@ -1,6 +1,7 @@
 pub mod AgreementLaws
 pub mod BookAgreement
 pub mod LineAgreement
+pub mod EditionBlocks
 pub mod EditionTheorems
 pub mod EditionInstances
 pub mod EditionRuns

@@ -1,7 +1,7 @@
 -- Stores of a dose (twelve-bytes); doses spelled as bytes (bytes-none, bytes-more), and for callers how much room they take
 -- (bytes-room).
 use Prim.Native.Nat.{ℕ, _+_, _*_}
-use mathlib.Core.Path.{_≡_, refl, sym, _∙_}
+use mathlib.Core.Path.{_≡_, refl, _∙_}
 use mathlib.Core.List.{List, [], _∷_, _++_}
 use lib.ListN.{length}
 use lib.Seq.{sets}
