@@ -76,7 +76,7 @@ module _ (earlier later : Edition) (lawful : IsEdition earlier) (lawful′ : IsE
     lines-alike section first second adds rises rises′ keeps =
         sorted (lines-agree (taggedIn s section) first second rises rises′ keeps)
       where
-        sorted : {v w : Verdict} → (v ≡ w) ⊎ ByLine (taggedIn s section) first second w → Alike earlier later b v w
+        sorted : {v w : Verdict} → (v ≡ w) ⊎ ByLine first second w → Alike earlier later b v w
         sorted (inl e) = inl e
         sorted (inr (line, a, r)) = inr (inr (inl (line, adds line a, r)))
 

@@ -37,11 +37,12 @@ refusal : (line : Line) (found : Tagged) → (lineCheckAs line found ≡ Pass) �
 refusal line Absent = ⊎-map (λ h. h) inl (tried (not (isRequired line)) 14 (line .tag))
 refusal line (Present e) = ⊎-map (λ h. h) inr (tried (isAsLine line (e .ty) (e .count)) 15 (line .tag))
 
-module _ (look : Look) where
-  abbrev pub ByLine : List Line → List Line → Verdict → Type 0
-  ByLine earlier later v = (line : Line) × Added earlier later line × Refuses v (line .tag)
+-- a refusal at a line that is added
+abbrev pub ByLine : List Line → List Line → Verdict → Type 0
+ByLine earlier later v = (line : Line) × Added earlier later line × Refuses v (line .tag)
 
-  abbrev pub LinesAgree : List Line → List Line → Type 0
+module _ (look : Look) where
+  abbrev LinesAgree : List Line → List Line → Type 0
   LinesAgree earlier later = (linesOf look earlier ≡ linesOf look later) ⊎ ByLine earlier later (linesOf look later)
 
   -- a line that the later list adds in front
