@@ -1,7 +1,7 @@
 -- Stores in a buffer (out-of-room, sets-append, sets-past, behind, before, put-there, at-front); four of them (four-stores,
 -- three-stores), and what there is no room for (cut-none, cut-one, cut-two, last-cut, cut-behind); a copy and a fill, turn by
--- turn (copy-turn, copied, fill-turn, filled); eight bytes (eight-past, eight-cut, eight-put); numbers in a row (one-number to
--- four-numbers), bytes and zero bytes (run-put, run-past, run-cut); the length of what is put (length-bytes, length-four).
+-- turn (copy-turn, copied, fill-turn, filled); numbers in a row (one-number to four-numbers), bytes and zero bytes (run-put,
+-- run-past, run-cut); the length of what is put (length-bytes, length-four).
 use Prim.Native.Nat.{ℕ, suc, _+_, _-_, _≤_, _<_}
 use mathlib.Core.Path.{_≡_, refl, sym, ap, _∙_}
 use mathlib.Core.List.{List, [], _∷_, _++_, append-assoc}
@@ -134,18 +134,6 @@ pub cut-behind : (out : List ℕ) (at : ℕ) (xs ys : List ℕ) {o : List ℕ} �
 cut-behind out at xs ys p h =
     let k = length-sets out at xs in
     p ∙ sym (sets-append out at xs ys ∙ sets-past (sets out at xs) (at + length xs) ys (omega arith))
-
--- eight bytes, four by four, as far as there is room
-module _ (out : List ℕ) (at a b c d e f g h : ℕ) {o₁ : List ℕ} (p : o₁ ≡ sets out at (a ∷ b ∷ c ∷ d ∷ [])) where
-  pub eight-past : length out ≤ at → o₁ ≡ sets out at (a ∷ b ∷ c ∷ d ∷ e ∷ f ∷ g ∷ h ∷ [])
-  eight-past k = cut-behind out at (a ∷ b ∷ c ∷ d ∷ []) (e ∷ f ∷ g ∷ h ∷ []) p (omega arith)
-
-  pub eight-cut : length out - at ≤ 4 → o₁ ≡ sets out at (a ∷ b ∷ c ∷ d ∷ e ∷ f ∷ g ∷ h ∷ [])
-  eight-cut k = cut-behind out at (a ∷ b ∷ c ∷ d ∷ []) (e ∷ f ∷ g ∷ h ∷ []) p (omega arith)
-
-  pub eight-put : {o₂ : List ℕ} → o₂ ≡ sets o₁ (at + 4) (e ∷ f ∷ g ∷ h ∷ [])
-      → o₂ ≡ sets out at (a ∷ b ∷ c ∷ d ∷ e ∷ f ∷ g ∷ h ∷ [])
-  eight-put q = behind out at (a ∷ b ∷ c ∷ d ∷ []) (e ∷ f ∷ g ∷ h ∷ []) p q refl
 
 -- four numbers, as far as there is room
 module _ (out : List ℕ) (at a b c d : ℕ) {o₁ : List ℕ} (p : o₁ ≡ sets out at (bytesOf a)) where

@@ -66,38 +66,6 @@ pub fn four(out: &mut [u8], at: usize, a: u8, b: u8, c: u8, d: u8)
     four_within(out, at, a, b, c, d);
 }
 
-// Puts eight bytes at a place, four by four.
-fn eight_cut(out: &mut [u8], at: usize, a: u8, b: u8, c: u8, d: u8, e: u8, f: u8, g: u8, h: u8)
-    ensures { λ r. ⌜ now (out .exit) ≡ sets (now (out .entry)) at (a ∷ b ∷ c ∷ d ∷ e ∷ f ∷ g ∷ h ∷ []) ⌝ }
-{
-    let len = out.len();
-    four(out, at, a, b, c, d);
-    if len <= at {
-        return;
-    }
-    if len - at <= 4 {
-        return;
-    }
-    four(out, at + 4, e, f, g, h);
-}
-
-// Puts eight bytes at a place.
-pub fn eight(out: &mut [u8], at: usize, a: u8, b: u8, c: u8, d: u8, e: u8, f: u8, g: u8, h: u8)
-    ensures { λ r. ⌜ now (out .exit) ≡ sets (now (out .entry)) at (a ∷ b ∷ c ∷ d ∷ e ∷ f ∷ g ∷ h ∷ []) ⌝ }
-{
-    let len = out.len();
-    if len < 8 {
-        eight_cut(out, at, a, b, c, d, e, f, g, h);
-        return;
-    }
-    if len - 8 < at {
-        eight_cut(out, at, a, b, c, d, e, f, g, h);
-        return;
-    }
-    four_within(out, at, a, b, c, d);
-    four_within(out, at + 4, e, f, g, h);
-}
-
 // Puts a number at a place.
 pub fn number(out: &mut [u8], at: usize, n: u32)
     ensures { λ r. ⌜ now (out .exit) ≡ sets (now (out .entry)) at (bytesOf n) ⌝ }
