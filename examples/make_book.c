@@ -66,6 +66,7 @@ enum { ENTRIES_ROOM = 40 * STATION_ENTRY_BYTES, DATA_ROOM = BOOK_ROOM + 1024 };
 
 _Static_assert((uint64_t)MOST_DOSES * MOST_MILLIGRAMS <= UINT32_MAX,
                "the sum of any book's doses fits 32 bits");
+_Static_assert(STATION_DOSE_BYTES == 3 * sizeof(uint32_t), "a dose is oxide, milligrams and lot");
 _Static_assert(MOST_DOSES * STATION_DOSE_BYTES <= STATION_DOSES_ROOM,
                "any book's doses can be read again");
 

@@ -1,5 +1,5 @@
--- Stores of a dose in a buffer (three-numbers, of-dose), and a walk that stores a book's doses however they are spelled, for each
--- way through it (turn-remark, turn-weighed, done, full). For callers: numbers-room.
+-- Stores of a dose in a buffer (three-numbers, of-dose), and a walk that stores a book's doses however they are spelled, for
+-- each way through it (turn-remark, turn-weighed, done, full). For callers: numbers-room.
 use Prim.Native.Nat.{ℕ, suc, _+_, _-_, _*_, _≤_, _<_}
 use mathlib.Core.Path.{_≡_, refl, sym, _∙_}
 use mathlib.Core.List.{List, [], _∷_}
