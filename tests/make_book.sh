@@ -130,15 +130,15 @@ holds lot-1.rpm 'aa001b000004e2000112ab'
 holds lot-2.rpm 'aa001b000004e200000000'
 holds lot-3.rpm 'aa03e7004c4b40ffffffff'
 holds lot-4.rpm 'aa001b000004e20000000186000e00000320aa0001000000010000000286001b00000002'
-# times COUNT LINE: the line so often
-times() { yes "$2" | head -n "$1" || true; }
+# repeated COUNT LINE: the line so often
+repeated() { yes "$2" | head -n "$1" || true; }
 # a whole book of lots; books that doses with lots and without fill to the last byte
-makes lots-1.rpm '372 doses, 372 with a lot, 1860000000 mg' lots 1 < <(times 372 '27 5000000 4294967295')
+makes lots-1.rpm '372 doses, 372 with a lot, 1860000000 mg' lots 1 < <(repeated 372 '27 5000000 4294967295')
 full=()
 for _ in $(seq 372); do full+=(27:5000000:4294967295); done
 states lots-1.rpm "${full[@]}"
-makes lots-2.rpm '376 doses, 366 with a lot, 376 mg' lots 2 < <(times 366 '27 1 5'; times 10 '27 1')
-makes lots-3.rpm '584 doses, 2 with a lot, 584 mg' lots 3 < <(times 582 '27 1'; times 2 '27 1 5')
+makes lots-2.rpm '376 doses, 366 with a lot, 376 mg' lots 2 < <(repeated 366 '27 1 5'; repeated 10 '27 1')
+makes lots-3.rpm '584 doses, 2 with a lot, 584 mg' lots 3 < <(repeated 582 '27 1'; repeated 2 '27 1 5')
 # names that rpm takes too
 long=$(printf '%060d' 0)
 makes Sky_blue-2+b.c-1_0.a+2.rpm '2 doses, 2050 mg' Sky_blue-2+b.c 1_0.a+2 sky.txt
@@ -207,8 +207,8 @@ stops 1 'standard input:1: the line is longer than 255 bytes'$'\n'"$behind" wron
 many='one dose too many: a book has room for 585, or for 372 with lots'
 stops 1 "standard input:586: $many"$'\n'"$behind" wrong 1 < <(yes '27 1')
 stops 1 "standard input:373: $many"$'\n'"$behind" wrong 1 < <(yes '27 1 0')
-stops 1 "standard input:585: $many"$'\n'"$behind" wrong 1 < <(times 584 '27 1'; yes '27 1 5')
-stops 1 "standard input:377: $many"$'\n'"$behind" wrong 1 < <(times 366 '27 1 5'; yes '27 1')
+stops 1 "standard input:585: $many"$'\n'"$behind" wrong 1 < <(repeated 584 '27 1'; yes '27 1 5')
+stops 1 "standard input:377: $many"$'\n'"$behind" wrong 1 < <(repeated 366 '27 1 5'; yes '27 1')
 # no doses
 stops 1 'standard input: no doses' none 1 < /dev/null
 stops 1 'standard input: no doses' none 1 < <(printf '# 27 1250\n\n')
