@@ -1,5 +1,6 @@
 -- The editions by their numbers are editions as request 7 states them (editions-lawful), each extends those before
--- (editions-extend), and a line that one adds is the batch weight's, to edition 1's (adds-batch).
+-- (editions-extend), the third is the second with kind AA (third-edition), and a line that one adds is the batch weight's, to
+-- edition 1's (adds-batch).
 use Prim.Native.Nat.{ℕ, _≤_, _<_}
 use mathlib.Core.Path.{_≡_, refl}
 use mathlib.Core.Logic.{_↔_, Iff·rfl, inl, inr}
@@ -8,17 +9,18 @@ use mathlib.Core.Bool.{Bool, true, false, cond, _&&_, and-eq-true-iff}
 use lib.ListN.{length, getD}
 use lib.Dec.{eqb, leb}
 use native.Mathlib.Omega.{arith}
-use borrow.Author.Tests.{leb-true, le-leb, eqb-true, eq-eqb}
+use borrow.Author.Tests.{leb-true, le-leb, eqb-true, eq-eqb, ne-eqb}
 use Rattle.catalogue.specs.declared.Line.{Line}
 use Rattle.catalogue.specs.Words.{int32, requiredFrom2}
 use Rattle.catalogue.specs.Catalogue.{signatureLines, headerLines, lineOf, inEdition, every}
 use Rattle.catalogue.specs.Lists.{hadLine, linesHad}
 use Rattle.catalogue.proofs.CatalogueLaws.{every-at}
 use Rattle.catalogue.proofs.ListLaws.{rises-signature, rises-header, listed-at, each-had, kept}
-use Rattle.book.specs.Kinds.{Part, Lot, Other, kindTable}
+use Rattle.book.specs.Kinds.{Part, Lot, Other, kindTable, kindsIn}
 use Rattle.book.proofs.KindLaws.{kinds-kept, EachRow, each-kind}
 use Rattle.reading.specs.Editions.{batchTag}
-use Rattle.demands.specs.Editions.{BeginsDose, batchLine, Added, EditionsLawful, EditionsExtend, AddsBatch}
+use Rattle.demands.specs.Editions.{BeginsDose, batchLine, Added, EditionsLawful, EditionsExtend}
+use Rattle.demands.specs.Editions.{ThirdEdition, AddsBatch}
 use Rattle.demands.proofs.PassIff.{eqb-iff}
 
 pub editions-extend : EditionsExtend
@@ -74,6 +76,17 @@ editions-lawful edition l =
       batch =
           each-had edition (λ (line : Line). line .tag ≡ batchTag → line ≡ batchLine) headerLines
           (λ i h e t. is-batch (lineOf (getD headerLines i [])) t (every-at isFirstOrBatch headerLines header-first i h));
+    }
+
+pub third-edition : ThirdEdition
+unfolding linesHad signatureLines headerLines kindsIn kindTable
+third-edition =
+    record {
+      signature = refl;
+      header = refl;
+      kinds = λ kind h. rw (ne-eqb kind 0xAA h);
+      without = refl;
+      with′ = refl;
     }
 
 -- what holds of the line of each row that the earlier edition does not have holds of each line added

@@ -1,5 +1,5 @@
 -- Request 7: demand 3 for any catalogue and set of kinds that extends another, over the reading of such editions. Proved in
--- proofs/ as editions-agree; editions 1 to 3 are instances (editions-lawful, editions-extend, editions-run).
+-- proofs/ as editions-agree; editions 1 to 3 are instances (editions-lawful, editions-extend, third-edition, editions-run).
 use Prim.Native.Nat.{ℕ, _≤_}
 use mathlib.Core.Path.{_≡_}
 use mathlib.Core.Logic.{_⊎_, _≢_}
@@ -10,7 +10,7 @@ use Rattle.format.specs.declared.verdict.Answer.the-variants.{Done, Refused}
 use Rattle.catalogue.specs.declared.Line.{Line}
 use Rattle.catalogue.specs.Words.{int32, required}
 use Rattle.catalogue.specs.Lists.{Listed, Rising, KeepsLines}
-use Rattle.book.specs.Kinds.{isWeighed, Part, Oxide, Milligrams, Holds, knows, lastEdition}
+use Rattle.book.specs.Kinds.{isWeighed, Part, Oxide, Milligrams, Lot, Unknown, Holds, knows, kindsOf, lastEdition}
 use Rattle.book.specs.Book.{kindAt, places}
 use Rattle.book.specs.KindTheorems.{KeepsKinds}
 use Rattle.reading.specs.Editions.{Edition, editionOf, batchTag}
@@ -107,6 +107,14 @@ EditionsLawful = (edition : ℕ) → 1 ≤ edition → IsEdition (editionOf edit
 
 abbrev pub EditionsExtend : Type 0
 EditionsExtend = (earlier later : ℕ) → earlier ≤ later → Extends (editionOf earlier) (editionOf later)
+
+-- "Edition 3 keeps all of edition 2 and adds no tag", and kind AA alone
+pub record ThirdEdition : Type 0 where
+  pub signature : editionOf 3 .signature ≡ editionOf 2 .signature
+  pub header : editionOf 3 .header ≡ editionOf 2 .header
+  pub kinds : (kind : ℕ) → kind ≢ 0xAA → kindsOf 3 kind ≡ kindsOf 2 kind
+  pub without : kindsOf 2 0xAA ≡ Unknown
+  pub with′ : kindsOf 3 0xAA ≡ Holds (Oxide ∷ Milligrams ∷ Lot ∷ [])
 
 -- the reading that runs at a number is that of the edition
 pub record RunsAt (form : Form) (edition : ℕ) (s before : List ℕ) : Type 0 where

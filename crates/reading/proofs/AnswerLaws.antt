@@ -1,5 +1,5 @@
 -- What an answer says of the verdict and of the buffer's room: done, refused, pass-book, pass-room, answer-room. At a known
--- edition the reading is its checks from 2 on: known-edition, at-known.
+-- edition the reading is its checks from 2 on: at-known.
 use Prim.Native.Nat.{ℕ, _*_, _≤_}
 use mathlib.Core.Path.{_≡_, refl, sym, _∙_}
 use mathlib.Core.List.{List}
@@ -30,7 +30,7 @@ refused Pass count h = let z : _≡_ {A = ℕ} 0 1 = cc in absurd (omega arith)
 refused (Fail number place) count h = cc
 
 module _ (edition : ℕ) (l : 1 ≤ edition) (m : edition ≤ lastEdition) where
-  pub known-edition : editionCheck edition ≡ Pass
+  known-edition : editionCheck edition ≡ Pass
   unfolding editionCheck check
   known-edition = rw (le-leb 1 edition l, le-leb edition lastEdition m)
 
