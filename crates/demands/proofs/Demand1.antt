@@ -1,6 +1,6 @@
--- Demand 1: refused-keeps and accepted-writes.
+-- Demand 1: refused-keeps and accepted-writes. What is put into a buffer, in either form: as-cells.
 use Prim.Native.Nat.{ℕ, _+_, _≤_}
-use mathlib.Core.Path.{_≡_, _∙_}
+use mathlib.Core.Path.{_≡_, refl, _∙_}
 use mathlib.Core.List.{List, _++_}
 use lib.ListN.{length, drop}
 use lib.Seq.{sets, sets-eq}
@@ -30,11 +30,15 @@ front before l h =
     let e : 0 + length l ≡ length l = omega arith in
     sets-eq l before 0 (omega arith) ∙ rw e
 
+-- doses in a buffer, in either form
+pub as-cells : (form : Form) (book before : List ℕ) → put form book before ≡ sets before 0 (doseCells form book)
+as-cells Numbers book before = refl
+as-cells Bytes book before = refl
+
 -- doses that fit are written whole
 doses-put : (form : Form) (book before : List ℕ) → length (doseCells form book) ≤ length before
     → put form book before ≡ doseCells form book ++ drop (length (doseCells form book)) before
-doses-put Numbers book before h = front before (doseCells Numbers book) h
-doses-put Bytes book before h = front before (doseCells Bytes book) h
+doses-put form book before h = as-cells form book before ∙ front before (doseCells form book) h
 
 pub accepted-writes : AcceptedWrites
 unfolding leftIn

@@ -85,8 +85,8 @@ third-edition =
       signature = refl;
       header = refl;
       kinds = λ kind h. rw (ne-eqb kind 0xAA h);
-      without = refl;
-      with′ = refl;
+      unknownBefore = refl;
+      body = refl;
     }
 
 -- what holds of the line of each row that the earlier edition does not have holds of each line added

@@ -12,16 +12,12 @@ use Rattle.book.specs.Doses.{dosesIn, doses}
 use Rattle.buffer.specs.Buffer.{numbersOf}
 use Rattle.reading.specs.Editions.{editionOf}
 use Rattle.reading.specs.Reading.{bookOf, checksAt, answerAs}
-use Rattle.reading.specs.Buffers.{Form, Numbers, Bytes, roomIn, cells, put, afterAs, leftAt, leftIn}
+use Rattle.reading.specs.Buffers.{Form, roomIn, cells, put, afterAs, leftAt, leftIn}
 use Rattle.reading.proofs.AnswerLaws.{at-known}
 use Rattle.demands.specs.Editions.{EditionsRun}
+use Rattle.demands.proofs.Demand1.{as-cells}
 use Rattle.demands.proofs.EditionTheorems.{same-doses}
 use Rattle.demands.proofs.EditionInstances.{editions-extend}
-
--- doses in a buffer, in either form
-as-cells : (form : Form) (b before : List ℕ) → put form b before ≡ sets before 0 (cells form (numbersOf (doses b)))
-as-cells Numbers b before = refl
-as-cells Bytes b before = refl
 
 module _ (form : Form) (edition : ℕ) (l : 1 ≤ edition) (m : edition ≤ lastEdition) (s before : List ℕ) where
   abbrev room : ℕ

@@ -2,10 +2,10 @@ pub mod AgreementLaws
 pub mod BookAgreement
 pub mod LineAgreement
 pub mod EditionBlocks
+pub mod Demand1
 pub mod EditionTheorems
 pub mod EditionInstances
 pub mod EditionRuns
-pub mod Demand1
 pub mod Demand3
 pub mod TagLawful
 pub mod PassIff

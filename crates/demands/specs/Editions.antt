@@ -113,8 +113,8 @@ pub record ThirdEdition : Type 0 where
   pub signature : editionOf 3 .signature ≡ editionOf 2 .signature
   pub header : editionOf 3 .header ≡ editionOf 2 .header
   pub kinds : (kind : ℕ) → kind ≢ 0xAA → kindsOf 3 kind ≡ kindsOf 2 kind
-  pub without : kindsOf 2 0xAA ≡ Unknown
-  pub with′ : kindsOf 3 0xAA ≡ Holds (Oxide ∷ Milligrams ∷ Lot ∷ [])
+  pub unknownBefore : kindsOf 2 0xAA ≡ Unknown
+  pub body : kindsOf 3 0xAA ≡ Holds (Oxide ∷ Milligrams ∷ Lot ∷ [])
 
 -- the reading that runs at a number is that of the edition
 pub record RunsAt (form : Form) (edition : ℕ) (s before : List ℕ) : Type 0 where

@@ -55,8 +55,8 @@ fn decide(edition: u32, pkg: &[u8], found: Opened, bytes: &[u8], room: usize) ->
 }
 
 // Reads a package at an edition. Success is 0 with the dose count; the doses stand at the front of the buffer, oxide,
-// milligrams and lot, and nothing behind them changes. A refusal is the first failing check of 1 to 13 with 28, 14 to 18, 27 and 19
-// to 24, and changes nothing.
+// milligrams and lot, and nothing behind them changes. A refusal is the first failing check of 1 to 13 with 28, 14 to 18, 27
+// and 19 to 24, and changes nothing.
 pub fn read(edition: u32, pkg: &[u8], doses: &mut [u32]) -> Answer
     ensures { λ r. ⌜ Read edition (now (pkg .entry)) (now (doses .entry)) r (now (doses .exit)) ⌝ }
 {

@@ -54,6 +54,18 @@ fn read(name: &[u8], edition: u32) {
     show(answer);
 }
 
+// Reads a package at editions 1 and 2.
+fn read_first_two(name: &[u8]) {
+    read(name, 1);
+    read(name, 2);
+}
+
+// Reads a package at each edition.
+fn read_each(name: &[u8]) {
+    read_first_two(name);
+    read(name, 3);
+}
+
 // Writes the smallest package into a buffer, compares it with the one of data/, and writes the answer.
 fn write(name: &[u8]) {
     let file = os::open_read(name);
@@ -145,31 +157,22 @@ fn translated() {
 
 fn books() {
     read(b"book_example", 0);
-    read(b"book_example", 1);
-    read(b"book_example", 2);
-    read(b"book_example", 3);
+    read_each(b"book_example");
     read(b"book_example", 4);
     read(b"book_no_doses", 2);
     read(b"book_most_milligrams", 2);
-    read(b"book_two_kinds", 1);
-    read(b"book_two_kinds", 2);
+    read_first_two(b"book_two_kinds");
     read(b"book_limit", 2);
 }
 
 // Request 7: books with lots, and edition 3.
 fn lots() {
-    read(b"book_lot", 1);
-    read(b"book_lot", 2);
-    read(b"book_lot", 3);
+    read_each(b"book_lot");
     read(b"book_lot_0", 3);
     read(b"book_lot_most", 3);
     read(b"book_two_kinds", 3);
-    read(b"book_three_kinds", 1);
-    read(b"book_three_kinds", 2);
-    read(b"book_three_kinds", 3);
-    read(b"book_lot_behind_98", 1);
-    read(b"book_lot_behind_98", 2);
-    read(b"book_lot_behind_98", 3);
+    read_each(b"book_three_kinds");
+    read_each(b"book_lot_behind_98");
     read(b"book_lots_limit", 3);
     read(b"check14_20002", 3);
     read(b"check15_20002_type", 3);
@@ -183,10 +186,8 @@ fn lots() {
 fn rules() {
     read(b"check14_signature_1000", 2);
     read(b"check14_20001", 2);
-    read(b"check14_20002", 1);
-    read(b"check14_20002", 2);
-    read(b"check15_20002_type", 1);
-    read(b"check15_20002_type", 2);
+    read_first_two(b"check14_20002");
+    read_first_two(b"check15_20002_type");
     read(b"check16_whole_length", 2);
     read(b"check17_digest_alone", 2);
     read(b"check17_leader_missing", 2);
@@ -197,10 +198,8 @@ fn rules() {
 }
 
 fn locales() {
-    read(b"locales_right", 1);
-    read(b"locales_right", 2);
-    read(b"check17_locales", 1);
-    read(b"check17_locales", 2);
+    read_first_two(b"locales_right");
+    read_first_two(b"check17_locales");
     read(b"check17_locales_one_too_many", 2);
     read(b"check17_locales_description", 2);
     read(b"check17_locales_no_line", 2);
@@ -211,15 +210,11 @@ fn locales() {
 
 // Request 3: the digest from H on, with one bit turned in a dose, in the payload or in the digest.
 fn digests() {
-    read(b"book_payload", 1);
-    read(b"book_payload", 2);
-    read(b"check27_dose_bit", 1);
-    read(b"check27_dose_bit", 2);
-    read(b"check27_payload_bit", 1);
-    read(b"check27_payload_bit", 2);
+    read_first_two(b"book_payload");
+    read_first_two(b"check27_dose_bit");
+    read_first_two(b"check27_payload_bit");
     read(b"check27_payload_first_bit", 2);
-    read(b"check27_digest_bit", 1);
-    read(b"check27_digest_bit", 2);
+    read_first_two(b"check27_digest_bit");
     read(b"check27_digest_first_bit", 2);
     read(b"check27_from_the_lead", 2);
     read(b"check27_without_payload", 2);
@@ -229,10 +224,8 @@ fn digests() {
 
 // Request 5: a byte of the gap that isn't zero, before the rules and the digest.
 fn gaps() {
-    read(b"check28_book", 1);
-    read(b"check28_book", 2);
-    read(b"check28_before_27", 1);
-    read(b"check28_before_27", 2);
+    read_first_two(b"check28_book");
+    read_first_two(b"check28_before_27");
 }
 
 fn book_records() {
@@ -240,13 +233,11 @@ fn book_records() {
     read(b"check20_kind_96", 2);
     read(b"check20_kind_80", 2);
     read(b"check21_kind_7f", 2);
-    read(b"check21_date_cut", 1);
-    read(b"check21_date_cut", 2);
+    read_first_two(b"check21_date_cut");
     read(b"check22_oxide_0", 2);
     read(b"check22_oxide_1000", 2);
     read(b"check22_milligrams", 2);
-    read(b"check23_sum", 1);
-    read(b"check23_sum", 2);
+    read_first_two(b"check23_sum");
 }
 
 fn main() {
