@@ -1,4 +1,6 @@
 // A tag among records of 16 bytes: whether one has it, and the first that does.
+#![tactic(auto)]
+
 ghost use Rattle.std.specs.Prelude.{◌≡◌, ◌+◌, ◌-◌, ◌*◌, ◌%◌, ◌≤◌, length, drop, eqb};
 ghost use Rattle.be.specs.Numbers.{be32_at};
 ghost use Rattle.among.specs.Among.{has_tag, low_among, tag_among, first_from};

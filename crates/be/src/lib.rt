@@ -1,6 +1,8 @@
 // Big-endian numbers and parts of a slice.
 // Each function answers for any place: a byte past the end reads as 0, and a part ends where the slice
 // does.
+#![tactic(auto)]
+
 ghost use Rattle.std.specs.Prelude.{◌≡◌, ℕ, ◌+◌, ◌*◌, ◌-◌, ◌≤◌, ◌<◌, length, get_or, take, drop};
 ghost use Rattle.be.specs.Numbers.{be16_at, be32_at};
 ghost use Rattle.be.specs.Bytes.{same_bytes};

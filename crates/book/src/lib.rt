@@ -1,5 +1,7 @@
 // A book's kinds, records and doses: checks 19 to 22.
 // It knows the book's bytes alone.
+#![tactic(auto)]
+
 ghost use Rattle.std.specs.Prelude.{◌≡◌, ◌-◌, ◌≤◌, length};
 ghost use Rattle.book.specs.Kinds.{is_weighed, body_size, is_bare, is_known};
 ghost use Rattle.book.specs.Book.{book_limit, places, past_bare, records_check, length_check};

@@ -1,4 +1,6 @@
 // A book's doses in a lent buffer of numbers.
+#![tactic(auto)]
+
 ghost use Rattle.std.specs.Prelude.{◌≡◌, ◌+◌, ◌<◌, ◌^◌, [], ◌∷◌, set};
 ghost use Rattle.std.proofs.lemmas.List.Edits.{sets};
 ghost use Rattle.buffer.specs.Buffer.{numbers_per_dose, numbers_of, with_doses};

@@ -1,5 +1,7 @@
 // The catalogue of 82 lines and its one rule.
 // It is what source document 000 says of each tag, with document 01's exceptions and house lines.
+#![tactic(auto)]
+
 ghost use Rattle.std.specs.Prelude.{◌≡◌};
 ghost use Rattle.catalogue.specs.Catalogue.{catalogue, flat, line_at, line_in, in_edition, is_required, is_as_line};
 

@@ -13,7 +13,7 @@ use Rattle.format.specs.Sizes.{lead_size}
 use Rattle.structure.specs.Structure.{section_at}
 use Rattle.package.specs.Package.{header_start, signature_at, header_at}
 use Rattle.rules.specs.Rules.{rules_over, rules_check}
-use Rattle.md5.specs.Md5.{digest}
+use Rattle.message_digest.specs.Md5.{digest}
 use Rattle.book.specs.Kinds.{knows}
 use Rattle.book.specs.Doses.{doses_in, sum_of}
 use Rattle.book.specs.RowTheorems.{HoldDoses}

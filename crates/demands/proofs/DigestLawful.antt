@@ -14,8 +14,8 @@ use Rattle.entries.specs.Types.{element_size}
 use Rattle.entries.specs.Entries.{record_at}
 use Rattle.index.specs.Lookup.{entry_at, found_bytes}
 use Rattle.structure.specs.Structure.{section_at}
-use Rattle.md5.specs.Md5.{digest}
-use Rattle.md5.proofs.DigestLaws.{digest_length}
+use Rattle.message_digest.specs.Md5.{digest}
+use Rattle.message_digest.proofs.DigestLaws.{digest_length}
 use Rattle.verify.specs.Digests.{stated_in, from_header, digest_check}
 use Rattle.demands.specs.Lawful.{DataIs, LawfulStructure}
 use Rattle.demands.proofs.PassIff.{last_iff, same_iff}

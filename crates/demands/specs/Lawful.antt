@@ -19,7 +19,7 @@ use Rattle.catalogue.specs.declared.Line.{Line}
 use Rattle.catalogue.specs.Lists.{Listed}
 use Rattle.files.specs.Files.{file_tags}
 use Rattle.texts.specs.Texts.{linux, bin_sh}
-use Rattle.md5.specs.Md5.{digest}
+use Rattle.message_digest.specs.Md5.{digest}
 use Rattle.book.specs.Kinds.{knows}
 use Rattle.book.specs.Book.{book_limit}
 use Rattle.book.specs.Rows.{BookRecord, IsRow, stated_sum, LawfulRow}

@@ -1,4 +1,6 @@
 // The letter's demands, proved of the reading, and the calls that read at two editions.
+#![tactic(auto)]
+
 ghost use Rattle.demands.specs.Demands.{ReadBoth, ReadBothBytes};
 
 use format::Answer;

@@ -7,8 +7,8 @@ use native.Mathlib.Omega.{arith}
 use lib.ListN.{length, take, drop, length-append}
 use lib.Seq.{take-length, take_at}
 use borrow.Author.Tests.{lt-leb, le-leb}
-use Rattle.md5.specs.Ascii.{ascii}
-use Rattle.md5.specs.Md5.{digest}
+use Rattle.message_digest.specs.Ascii.{ascii}
+use Rattle.message_digest.specs.Md5.{digest}
 use Rattle.text.specs.Hex.{hex_line}
 use Rattle.digest.specs.Printed.{printed}
 

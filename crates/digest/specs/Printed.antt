@@ -1,7 +1,7 @@
 -- What the program writes for a message.
 use Rattle.std.specs.Prelude.{ℕ, List, cond, leb, length}
-use Rattle.md5.specs.Ascii.{ascii}
-use Rattle.md5.specs.Md5.{digest}
+use Rattle.message_digest.specs.Ascii.{ascii}
+use Rattle.message_digest.specs.Md5.{digest}
 use Rattle.text.specs.Hex.{hex_line}
 
 unfoldable pub printed : List ℕ → List ℕ

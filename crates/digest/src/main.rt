@@ -1,5 +1,6 @@
 // The program that writes the digest of its input.
 // It reads at most 65,536 bytes from standard input, and writes their MD5 digest in hex. It takes no arguments.
+#![tactic(auto)]
 
 ghost use Rattle.std.specs.Prelude.{◌≡◌, ◌≤◌, length, take};
 ghost use Rattle.digest.specs.Printed.{printed};
@@ -19,7 +20,7 @@ fn answer(message: &[u8], out: &mut [u8; 33]) -> usize
     if LIMIT < message.len() {
         return bytes::copy(b"too large for this program\n", out);
     }
-    let line = text::hex_line(md5::md5(message));
+    let line = text::hex_line(message_digest::md5(message));
     bytes::copy(&line, out)
 }
 

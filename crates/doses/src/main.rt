@@ -1,6 +1,7 @@
 // The program that writes the doses of a package.
 // It reads one package from standard input at edition 3, and writes its doses and their sum, or the refusal. It takes no
 // arguments.
+#![tactic(auto)]
 
 ghost use Rattle.std.specs.Prelude.{◌≤◌, length};
 

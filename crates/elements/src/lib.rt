@@ -1,4 +1,6 @@
 // Look-ups of the elements of an entry: check 26.
+#![tactic(auto)]
+
 ghost use Rattle.std.specs.Prelude.{◌≡◌, ◌+◌, ◌≤◌};
 ghost use Rattle.strings.specs.Strings.{strings_from};
 ghost use Rattle.format.specs.Sizes.{package_limit};

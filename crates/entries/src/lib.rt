@@ -1,4 +1,6 @@
 // One index record: checks 9 to 13 in order.
+#![tactic(auto)]
+
 ghost use Rattle.std.specs.Prelude.{◌≡◌, [], not};
 ghost use Rattle.format.specs.declared.verdict.Verdict.TheVariants.{Pass};
 ghost use Rattle.format.specs.Verdicts.{check, both};

@@ -1,5 +1,7 @@
 // File lists and file names: check 17.
 // It asks the records that were gathered.
+#![tactic(auto)]
+
 ghost use Rattle.std.specs.Prelude.{◌≡◌, ℕ};
 ghost use Rattle.tags.specs.Tables.{shown_by};
 ghost use Rattle.files.specs.Files.{count_check, counts_check, file_tags, old_names_right, present_check, new_names_check, names_check};

@@ -1,4 +1,6 @@
 // Flags of numbers, by their lowest 12 bits.
+#![tactic(auto)]
+
 ghost use Rattle.std.specs.Prelude.{◌≡◌};
 ghost use Rattle.flags.specs.Flags.{is_set, marked};
 

@@ -1,4 +1,6 @@
 // Lead, header record and index record, a structure's parts, verdict and answer.
+#![tactic(auto)]
+
 pub mod lead;
 pub mod records;
 pub mod section;

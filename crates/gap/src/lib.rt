@@ -1,4 +1,6 @@
 // The gap between the signature's end and H: check 28.
+#![tactic(auto)]
+
 ghost use Rattle.std.specs.Prelude.{◌≡◌, ◌-◌};
 ghost use Rattle.gap.specs.Gap.{gap_end, gap_check};
 

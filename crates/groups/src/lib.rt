@@ -1,5 +1,7 @@
 // Groups of tags, those of the files and the locales among them: check 17.
 // All but the last group ask the records that were gathered.
+#![tactic(auto)]
+
 ghost use Rattle.std.specs.Prelude.{◌≡◌, ◌||◌};
 ghost use Rattle.tags.specs.Tags.{has};
 ghost use Rattle.tags.specs.Tables.{shown_by};

@@ -1,4 +1,6 @@
 // The entry with a tag and a type in one structure.
+#![tactic(auto)]
+
 ghost use Rattle.std.specs.Prelude.{◌≡◌};
 ghost use Rattle.index.specs.Lookup.{extent_to, entry_of, find_in};
 

@@ -1,5 +1,7 @@
 // Standard input, for the programs.
 // It is read up to its end, a read that fails, or as much as there is room for.
+#![tactic(auto)]
+
 ghost use Rattle.io.specs.Counts.{IsPrefixLen};
 
 use libc::STDIN_FILENO;

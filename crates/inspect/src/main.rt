@@ -1,6 +1,8 @@
 // The program that shows what a package holds, and which of two versions is newer.
 // Its arguments say what to show: an index, the data of an entry or of an element, the version required for a name, whether a
 // version meets it, or how one version stands to another. It reads the package, where one is asked of, from standard input.
+#![tactic(auto)]
+
 mod request;
 mod show;
 mod versions;

@@ -6,7 +6,7 @@ use Rattle.format.specs.declared.records.IndexRecord.{IndexRecord}
 use Rattle.entries.specs.declared.types.ElementSize.{ElementSize}
 use Rattle.entries.specs.declared.types.ElementSize.TheVariants.{Bytes, ToZero, Unlawful}
 use Rattle.entries.specs.Types.{element_size}
-use Rattle.md5.specs.Md5.{digest}
+use Rattle.message_digest.specs.Md5.{digest}
 use Rattle.put.specs.Puts.{bytes_of, four_bytes, zeros}
 use Rattle.lists.specs.Lists.{ListEntry}
 use Rattle.reasons.specs.Reasons.{record_of, with_own}

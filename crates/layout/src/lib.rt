@@ -1,4 +1,6 @@
 // The layout of a package that is written, and its lead.
+#![tactic(auto)]
+
 ghost use Rattle.std.specs.Prelude.{◌≡◌, ◌+◌, ◌≤◌};
 ghost use Rattle.std.proofs.lemmas.List.Edits.{sets};
 ghost use Rattle.layout.specs.Layout.{offset_for, name_bytes, lead_bytes};

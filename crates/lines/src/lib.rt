@@ -1,4 +1,6 @@
 // The lines of the catalogue: checks 14 and 15.
+#![tactic(auto)]
+
 ghost use Rattle.std.specs.Prelude.{◌≡◌, ◌-◌};
 ghost use Rattle.catalogue.specs.Catalogue.{catalogue, flat, in_edition, line_at};
 ghost use Rattle.catalogue.specs.Lists.{signature_of, header_of};

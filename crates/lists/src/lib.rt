@@ -1,4 +1,6 @@
 // A list of entries as it is lent: 16 bytes an entry, and the entries' data in a row.
+#![tactic(auto)]
+
 ghost use Rattle.std.specs.Prelude.{◌≡◌, ◌+◌, ◌≤◌, length};
 ghost use Rattle.be.specs.Numbers.{be32_at};
 ghost use Rattle.lists.specs.Lists.{record_shown, is_whole, sizes_meet};

@@ -1,4 +1,6 @@
 // Translated strings, no more than there are locales: the last group of check 17.
+#![tactic(auto)]
+
 ghost use Rattle.std.specs.Prelude.{◌≡◌};
 ghost use Rattle.entries.specs.Entries.{record_at};
 ghost use Rattle.locales.specs.Locales.{locale_check, locales_check};

@@ -1,4 +1,6 @@
 // Look-ups of entries: check 25.
+#![tactic(auto)]
+
 ghost use Rattle.std.specs.Prelude.{◌≡◌};
 ghost use Rattle.index.specs.Lookup.{find_in, found_bytes};
 ghost use Rattle.lookups.specs.Lookup.{sought, sought_bytes, find_bytes, find_answer};

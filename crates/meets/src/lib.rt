@@ -1,4 +1,6 @@
 // Whether a version text meets what is required for a package name.
+#![tactic(auto)]
+
 ghost use Rattle.std.specs.Prelude.{◌≡◌, ◌<◌};
 ghost use Rattle.format.specs.declared.verdict.Verdict.TheVariants.{Pass};
 ghost use Rattle.format.specs.Sizes.{package_limit};

@@ -1,4 +1,6 @@
 // A whole package: checks 2 to 4, and 2 to 13 and 28 in order.
+#![tactic(auto)]
+
 ghost use Rattle.std.specs.Prelude.{◌≡◌, ◌+◌, ◌≤◌};
 ghost use Rattle.format.specs.Sizes.{package_limit};
 ghost use Rattle.format.specs.Places.{section_end};

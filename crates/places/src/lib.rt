@@ -1,5 +1,7 @@
 // Places in the file and in a store, and what a package has at a place.
 // The fields are shut: outside this crate no place of the file is made from a number.
+#![tactic(auto)]
+
 ghost use Rattle.std.specs.Prelude.{◌≡◌, ◌+◌, ◌-◌, get_or, take, drop};
 ghost use Rattle.be.specs.Numbers.{be32_at};
 ghost use Rattle.strings.specs.Strings.{strings_from};

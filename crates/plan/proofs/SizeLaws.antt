@@ -7,8 +7,8 @@ use lib.ListN.{length, drop, length-append, length-replicate, length-take, lengt
 use native.Mathlib.Omega.{arith}
 use borrow.Author.Tests.{le-leb, lt-leb}
 use Rattle.format.specs.Verdicts.{check}
-use Rattle.md5.specs.Md5.{digest}
-use Rattle.md5.proofs.DigestLaws.{digest_length}
+use Rattle.message_digest.specs.Md5.{digest}
+use Rattle.message_digest.proofs.DigestLaws.{digest_length}
 use Rattle.put.specs.Puts.{zeros}
 use Rattle.lists.specs.Lists.{size_at, entry_at, entries_from, entries_of, sizes_from}
 use Rattle.lists.proofs.ListLaws.{entries_total}

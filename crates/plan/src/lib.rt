@@ -1,4 +1,6 @@
 // Decides a writing: refusals 32 to 34, and the sizes of the package.
+#![tactic(auto)]
+
 ghost use Rattle.std.specs.Prelude.{◌≡◌, ◌+◌, ◌*◌, ◌/◌, ◌≤◌, ◌<◌, length};
 ghost use Rattle.format.specs.Sizes.{package_limit};
 ghost use Rattle.lists.specs.Lists.{entries_of, sizes_from};

@@ -1,5 +1,7 @@
 // Bytes and numbers put into a lent buffer.
 // Each function answers for any place: what the buffer has no room for is left out.
+#![tactic(auto)]
+
 ghost use Rattle.std.specs.Prelude.{◌≡◌, ◌+◌, ◌-◌, ◌≤◌, ◌<◌, [], ◌∷◌, ◌++◌, length};
 ghost use Rattle.std.proofs.lemmas.List.Edits.{sets};
 ghost use Rattle.put.specs.Puts.{bytes_of, four_bytes, zeros};

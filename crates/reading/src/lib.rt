@@ -1,4 +1,6 @@
 // The reading at an edition: checks 1, 23 and 24, and 1 to 13 with 28, 14 to 18, 27 and 19 to 24 in order.
+#![tactic(auto)]
+
 ghost use Rattle.std.specs.Prelude.{◌≡◌, ℕ, length};
 ghost use Rattle.reading.specs.Reading.{edition_check};
 ghost use Rattle.reading.specs.Weighings.{opened_at, opened_book, decided};

@@ -1,4 +1,6 @@
 // Whether a name and two lists of entries may be written: refusal 32.
+#![tactic(auto)]
+
 ghost use Rattle.std.specs.Prelude.{◌≡◌, ◌/◌, ◌≤◌, length};
 ghost use Rattle.format.specs.declared.section.Structure.TheVariants.{Signature, Header};
 ghost use Rattle.lists.specs.Lists.{entry_of, entries_of};

@@ -1,4 +1,6 @@
 // The first record whose tag an earlier one has: among records of 16 bytes, and in one structure (check 13).
+#![tactic(auto)]
+
 ghost use Rattle.std.specs.Prelude.{◌≡◌, true, ◌+◌, ◌*◌, ◌≤◌, length};
 ghost use Rattle.be.specs.Numbers.{be32_at};
 ghost use Rattle.among.specs.Among.{tag_among, first_from};

@@ -1,4 +1,6 @@
 // Blocks of 64 bytes, as MD5 works them into its registers: four rounds of 16 steps (RFC 1321, 3.4).
+#![tactic(auto)]
+
 ghost use Rattle.std.specs.Prelude.{◌≡◌, ◌/◌, ◌<◌, ◌≤◌, length};
 ghost use Rattle.words.specs.Words.{word_at};
 ghost use Rattle.rounds.specs.Table.{table};

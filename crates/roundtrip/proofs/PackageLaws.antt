@@ -21,8 +21,8 @@ use Rattle.gap.proofs.OrderLaws.{gap_pass}
 use Rattle.package.specs.Package.{size_check, gap_in, structures_check, package_check, sound_check}
 use Rattle.package.specs.Package.{signature_at, header_at, header_start, structure_of}
 use Rattle.rules.specs.Rules.{size_tag_check}
-use Rattle.md5.specs.Md5.{digest}
-use Rattle.md5.proofs.DigestLaws.{digest_length}
+use Rattle.message_digest.specs.Md5.{digest}
+use Rattle.message_digest.proofs.DigestLaws.{digest_length}
 use Rattle.verify.specs.Digests.{stated_in, from_header, digest_check}
 use Rattle.verify.proofs.ShownLaws.{digest_shown}
 use Rattle.put.specs.Puts.{bytes_of}

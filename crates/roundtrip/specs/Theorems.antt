@@ -11,7 +11,7 @@ use Rattle.index.specs.Lookup.{tagged_in}
 use Rattle.package.specs.Package.{sound_check, signature_at, header_at, header_start}
 use Rattle.lookups.specs.Lookup.{find_bytes, find_answer}
 use Rattle.rules.specs.Rules.{size_tag_check}
-use Rattle.md5.specs.Md5.{digest}
+use Rattle.message_digest.specs.Md5.{digest}
 use Rattle.verify.specs.Digests.{digest_check}
 use Rattle.lists.specs.Lists.{ListEntry, entries_of, list_of, row_of}
 use Rattle.reasons.specs.Reasons.{with_own}

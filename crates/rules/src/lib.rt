@@ -1,4 +1,6 @@
 // The size tag: check 16, and 14 to 18 in order.
+#![tactic(auto)]
+
 ghost use Rattle.std.specs.Prelude.{◌≡◌, ◌-◌};
 ghost use Rattle.catalogue.specs.Lists.{signature_of, header_of};
 ghost use Rattle.tags.specs.Tables.{shown_by};

@@ -1,4 +1,6 @@
 // Runs of digits and of letters in version texts: which of two is newer.
+#![tactic(auto)]
+
 ghost use Rattle.std.specs.Prelude.{◌≡◌, ◌≤◌, length, drop};
 ghost use Rattle.runs.specs.Orders.{by_number};
 ghost use Rattle.runs.specs.Runs.{kind, letter, digit, front, of_kind, is_zero, met};

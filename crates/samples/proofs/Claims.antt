@@ -22,7 +22,7 @@ use Rattle.buffer.specs.Buffer.{numbers_of}
 use Rattle.words.specs.Words.{word_at, low_first, rotated, auxiliary, increased}
 use Rattle.rounds.specs.Table.{table}
 use Rattle.rounds.specs.Rounds.{assigned, operated, operations, performed, block, blocks}
-use Rattle.md5.specs.Md5.{padding_bytes, length_bytes, padded, start, output, digest}
+use Rattle.message_digest.specs.Md5.{padding_bytes, length_bytes, padded, start, output, digest}
 use Rattle.verify.specs.Digests.{digest_check}
 use Rattle.put.specs.Puts.{bytes_of, four_bytes}
 use Rattle.layout.specs.Layout.{offset_for, index_from, store_from, structure_bytes, signature_of, lead_bytes, written}

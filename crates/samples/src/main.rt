@@ -1,5 +1,7 @@
 // Samples of documents 01 and 02: those marked P and others proved, the rest run.
 // The program looks up or reads each package of data/, and writes the answer as `NUMBER at PLACE`.
+#![tactic(auto)]
+
 use format::Answer;
 use libc::STDOUT_FILENO;
 

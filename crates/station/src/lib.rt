@@ -1,5 +1,7 @@
 // The calls for C.
 // Number and place are in one number, number × 2^32 + place; how one text stands to another is 0, 1 or 2.
+#![tactic(auto)]
+
 ghost use Rattle.std.specs.Prelude.{◌≡◌};
 ghost use Rattle.format.specs.Verdicts.{packed_of};
 ghost use Rattle.elements.specs.Elements.{find_element_answer};

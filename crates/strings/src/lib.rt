@@ -1,5 +1,7 @@
 // Zero-ended strings of a slice.
 // A byte past the end reads as 0.
+#![tactic(auto)]
+
 ghost use Rattle.std.specs.Prelude.{◌≡◌, ℕ, ◌+◌, ◌-◌, ◌≤◌, ◌<◌, length};
 ghost use Rattle.strings.specs.Strings.{strings_from, next_zero, empty_strings, is_ended};
 

@@ -1,4 +1,6 @@
 // One header structure: checks 5 to 8, and 5 to 13 in order.
+#![tactic(auto)]
+
 ghost use Rattle.std.specs.Prelude.{◌≡◌, ◌+◌, ◌<◌};
 ghost use Rattle.format.specs.Places.{store_place};
 ghost use Rattle.structure.specs.Structure.{header_check, records_check};

@@ -1,4 +1,6 @@
 // The records of the catalogue's tags, gathered in one pass over an index.
+#![tactic(auto)]
+
 ghost use Rattle.std.specs.Prelude.{◌≡◌};
 ghost use Rattle.entries.specs.Entries.{record_at};
 ghost use Rattle.tags.specs.Tags.{has, count_in, number_in};

@@ -1,5 +1,7 @@
 // Numbers and bytes as text, for the programs.
 // A decimal word is read, bytes are written in hex, numbers on a line.
+#![tactic(auto)]
+
 pub mod lines;
 
 ghost use Rattle.std.specs.Prelude.{◌≡◌, ◌<◌, min};

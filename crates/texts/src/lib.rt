@@ -1,5 +1,7 @@
 // Texts: check 18.
 // It asks the records that were gathered.
+#![tactic(auto)]
+
 ghost use Rattle.std.specs.Prelude.{◌≡◌, ℕ, ◌+◌, ◌*◌, ◌<◌};
 ghost use Rattle.tags.specs.Tables.{shown_by};
 ghost use Rattle.texts.specs.Texts.{entry_in, text_is, programs_check, all_below, indexes_below};

@@ -1,5 +1,6 @@
 // The program that prints the test suite of RFC 1321.
 // It takes no input, and writes what A.5 has.
+#![tactic(auto)]
 
 use libc::STDOUT_FILENO;
 
@@ -8,7 +9,7 @@ fn put(message: &[u8]) {
     io::write_all(STDOUT_FILENO, b"MD5 (\"");
     io::write_all(STDOUT_FILENO, message);
     io::write_all(STDOUT_FILENO, b"\") = ");
-    let line = text::hex_line(md5::md5(message));
+    let line = text::hex_line(message_digest::md5(message));
     io::write_all(STDOUT_FILENO, &line);
 }
 

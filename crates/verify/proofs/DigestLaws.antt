@@ -13,7 +13,7 @@ use Rattle.format.specs.declared.section.Section.{Section}
 use Rattle.format.specs.declared.verdict.Verdict.TheVariants.{Pass, Fail}
 use Rattle.format.specs.declared.verdict.Answer.TheVariants.{Done, Refused}
 use Rattle.format.proofs.VerdictLaws.{passed, stopped}
-use Rattle.md5.specs.Md5.{digest}
+use Rattle.message_digest.specs.Md5.{digest}
 use Rattle.verify.specs.Digests.{stated_in, from_header, digest_check}
 use Rattle.verify.specs.Lent.{digest_size, digest_answer, digest_after, DigestPut}
 

@@ -6,7 +6,7 @@ use Rattle.format.specs.declared.verdict.Verdict.{Verdict}
 use Rattle.format.specs.declared.verdict.Verdict.TheVariants.{Pass}
 use Rattle.format.specs.Verdicts.{check}
 use Rattle.lookups.specs.Within.{bytes_in}
-use Rattle.md5.specs.Md5.{digest}
+use Rattle.message_digest.specs.Md5.{digest}
 
 -- the digest that a package states: what a look-up in the signature shows for 1004, bin
 abbrev pub stated_in : List ℕ → Section → List ℕ

@@ -3,7 +3,7 @@ use Rattle.std.specs.Prelude.{ℕ, ◌≡◌, List, cond, length, leb}
 use Rattle.std.proofs.lemmas.List.Edits.{sets}
 use Rattle.format.specs.declared.verdict.Answer.{Answer}
 use Rattle.format.specs.declared.verdict.Answer.TheVariants.{Done, Refused}
-use Rattle.md5.specs.Md5.{digest}
+use Rattle.message_digest.specs.Md5.{digest}
 
 -- how many bytes a digest has
 abbrev pub digest_size : ℕ

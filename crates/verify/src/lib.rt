@@ -1,4 +1,6 @@
 // The digest of a package, check 27; and that of any bytes, put into a lent buffer.
+#![tactic(auto)]
+
 ghost use Rattle.std.specs.Prelude.{◌≡◌};
 ghost use Rattle.verify.specs.Digests.{from_header, digest_check};
 ghost use Rattle.verify.specs.Lent.{DigestPut};
@@ -30,7 +32,7 @@ pub fn check(pkg: &[u8], signature: Section, header: Section) -> Verdict
     ensures { result ≡ digest_check pkg.now signature header }
 {
     let stated = lookups::find_in(pkg, signature, DigestEntry::TAG, DigestEntry::TYPE);
-    let found = md5::md5(from_header(pkg, header));
+    let found = message_digest::md5(from_header(pkg, header));
     if be::same(stated, &found) {
         return Verdict::Pass;
     }
@@ -45,7 +47,7 @@ pub fn put_digest(bytes: &[u8], out: &mut [u8]) -> Answer
     if out.len() < DigestEntry::SIZE as usize {
         return Answer::Refused(34, DigestEntry::SIZE);
     }
-    let digest = md5::md5(bytes);
+    let digest = message_digest::md5(bytes);
     put::bytes(out, 0, &digest);
     Answer::Done(DigestEntry::SIZE)
 }

@@ -1,5 +1,7 @@
 // Which of two version texts is newer.
 // A text is its runs of digits and of letters; what stands between them only separates.
+#![tactic(auto)]
+
 ghost use Rattle.std.specs.Prelude.{◌≡◌, ◌≤◌, length, drop};
 ghost use Rattle.runs.specs.Runs.{met};
 ghost use Rattle.version.specs.Version.{kind_of, by_text};

@@ -1,5 +1,7 @@
 // Walking an index: check 26.
 // A position by value hands back the next.
+#![tactic(auto)]
+
 ghost use Rattle.std.specs.Prelude.{◌≡◌, ℕ, ◌+◌, ◌≤◌, ◌<◌};
 ghost use Rattle.format.specs.Sizes.{package_limit};
 ghost use Rattle.format.specs.Places.{section_end};

@@ -1,4 +1,6 @@
 // Words of 32 bits, as MD5 adds, rotates and mixes them (RFC 1321, section 2 and the functions of 3.4).
+#![tactic(auto)]
+
 ghost use Rattle.std.specs.Prelude.{◌≡◌, ◌+◌, ◌*◌, ◌%◌, ◌^◌};
 ghost use Rattle.words.specs.Words.{plus, rotated, auxiliary, increased, low_first};
 

@@ -6,8 +6,8 @@ use mathlib.Core.List.{List, ◌++◌, append_assoc}
 use lib.ListN.{length, take, drop, length-append, length-replicate}
 use lib.Seq.{sets}
 use native.Mathlib.Omega.{arith}
-use Rattle.md5.specs.Md5.{digest}
-use Rattle.md5.proofs.DigestLaws.{digest_length}
+use Rattle.message_digest.specs.Md5.{digest}
+use Rattle.message_digest.proofs.DigestLaws.{digest_length}
 use Rattle.put.specs.Puts.{zeros}
 use Rattle.put.proofs.PutLaws.{behind, before, put_there}
 use Rattle.lists.specs.Lists.{entries_of}

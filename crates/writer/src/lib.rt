@@ -1,4 +1,6 @@
 // The writer: puts the package of a name and two lists of entries into a lent buffer.
+#![tactic(auto)]
+
 ghost use Rattle.std.specs.Prelude.{◌≡◌, ◌≤◌, length};
 ghost use Rattle.std.proofs.lemmas.List.Edits.{sets};
 ghost use Rattle.format.specs.Sizes.{package_limit};
@@ -38,7 +40,7 @@ fn put_package(
             + first);
     let number = sizes.length - sizes.start;
     structures::put_structure(out, start, header, header_data, sizes.header as usize);
-    let digest = md5::md5(be::part(out, start, number as usize));
+    let digest = message_digest::md5(be::part(out, start, number as usize));
     layout::put_lead(out, name);
     structures::put_signature(
         out,

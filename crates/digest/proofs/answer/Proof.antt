@@ -1,7 +1,7 @@
 -- What was copied stands at the front of the buffer.
 -- Assumes nothing.
 use borrow.Author.Rules.{rules}
-use Rattle.md5.specs.Ascii.{ascii}
+use Rattle.message_digest.specs.Ascii.{ascii}
 use Rattle.digest.proofs.PrintedLaws.{fits, too_large, spelled}
 use Rattle.digest.proofs.answer.Statement.{statement}
 use Rattle.digest.proofs.answer.Tie as tie

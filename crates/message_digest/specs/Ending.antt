@@ -3,7 +3,7 @@ use Rattle.std.specs.Prelude.{ℕ, ◌+◌, ◌-◌, ◌/◌, ◌%◌, List, ◌
 use Rattle.words.specs.declared.State.{State}
 use Rattle.rounds.specs.Table.{table}
 use Rattle.rounds.specs.Rounds.{blocks}
-use Rattle.md5.specs.Md5.{padding_bytes, length_bytes}
+use Rattle.message_digest.specs.Md5.{padding_bytes, length_bytes}
 
 -- the last block or two while they are made: what is left of the message, 128, and zeros to 128 bytes
 unfoldable pub opening : List ℕ → List ℕ

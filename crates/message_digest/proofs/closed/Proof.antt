@@ -1,9 +1,9 @@
 -- The eight bytes stand between those before and behind them.
 -- Assumes nothing.
 use borrow.Author.Rules.{rules}
-use Rattle.md5.proofs.EndingLaws.{pasted}
-use Rattle.md5.proofs.closed.Statement.{statement}
-use Rattle.md5.proofs.closed.Tie as tie
+use Rattle.message_digest.proofs.EndingLaws.{pasted}
+use Rattle.message_digest.proofs.closed.Statement.{statement}
+use Rattle.message_digest.proofs.closed.Tie as tie
 
 add-end : tie.Need-overflow-add-end
 add-end c = search rules

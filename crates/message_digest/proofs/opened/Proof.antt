@@ -1,9 +1,9 @@
 -- The byte 128 stands behind the bytes that were copied.
 -- Assumes nothing.
 use borrow.Author.Rules.{rules}
-use Rattle.md5.proofs.EndingLaws.{opening_set}
-use Rattle.md5.proofs.opened.Statement.{statement}
-use Rattle.md5.proofs.opened.Tie as tie
+use Rattle.message_digest.proofs.EndingLaws.{opening_set}
+use Rattle.message_digest.proofs.opened.Statement.{statement}
+use Rattle.message_digest.proofs.opened.Tie as tie
 
 slice-aggregate-copy : tie.Need-slice-aggregate-copy
 slice-aggregate-copy c = search rules

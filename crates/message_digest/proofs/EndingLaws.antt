@@ -15,9 +15,9 @@ use Rattle.words.proofs.LowFirstLaws.{length_low_first}
 use Rattle.rounds.specs.Table.{table}
 use Rattle.rounds.specs.Rounds.{blocks}
 use Rattle.rounds.proofs.BlockLaws.{blocks_append, blocks_add, blocks_drop}
-use Rattle.md5.specs.Md5.{padding_bytes, length_bytes, padded, start, output, digest}
-use Rattle.md5.specs.Ending.{opening, finished}
-use Rattle.md5.proofs.PaddingLaws.{length_padding, length_padded}
+use Rattle.message_digest.specs.Md5.{padding_bytes, length_bytes, padded, start, output, digest}
+use Rattle.message_digest.specs.Ending.{opening, finished}
+use Rattle.message_digest.proofs.PaddingLaws.{length_padding, length_padded}
 
 zeros_split : (a b c : ℕ) → c ≡ a + b → replicate {A = ℕ} c 0 ≡ replicate a 0 ++ replicate b 0
 zeros_split a b c e = ap (λ (k : ℕ). replicate {A = ℕ} k 0) e ∙ sym (replicate-append-replicate a b 0)

@@ -5,7 +5,7 @@ use mathlib.Core.List.{List}
 use Prim.Native.Nat.{ℕ}
 use lib.ListN.{length, length-append}
 use Rattle.words.proofs.LowFirstLaws.{length_low_first}
-use Rattle.md5.specs.Md5.{output, digest}
+use Rattle.message_digest.specs.Md5.{output, digest}
 
 pub digest_length : (s : List ℕ) → length (digest s) ≡ 16
 unfolding digest output

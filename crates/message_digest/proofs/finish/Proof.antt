@@ -3,9 +3,9 @@
 use mathlib.Core.Path.{sym}
 use lib.Seq.{length-take-le}
 use borrow.Author.Rules.{rules}
-use Rattle.md5.proofs.EndingLaws.{ended, finished_is}
-use Rattle.md5.proofs.finish.Statement.{statement}
-use Rattle.md5.proofs.finish.Tie as tie
+use Rattle.message_digest.proofs.EndingLaws.{ended, finished_is}
+use Rattle.message_digest.proofs.finish.Statement.{statement}
+use Rattle.message_digest.proofs.finish.Tie as tie
 
 sub-from : tie.Need-overflow-sub-from
 sub-from c = search rules

@@ -2,9 +2,9 @@
 -- Assumes nothing.
 use borrow.Author.Rules.{rules}
 use Rattle.words.specs.Words.{low_first}
-use Rattle.md5.specs.Md5.{output}
-use Rattle.md5.proofs.put.Statement.{statement}
-use Rattle.md5.proofs.put.Tie as tie
+use Rattle.message_digest.specs.Md5.{output}
+use Rattle.message_digest.proofs.put.Statement.{statement}
+use Rattle.message_digest.proofs.put.Tie as tie
 
 cast-t7 : tie.Need-overflow-cast-t7
 cast-t7 c = search rules

@@ -1,8 +1,8 @@
 -- RFC 1321, A.5: what the test suite prints, MD5 ("a") = 0cc175b9c0f1b6a831c399e269772661. Proved in proofs/ as test_suite_right.
 use Rattle.std.specs.Prelude.{ℕ, ◌+◌, ◌*◌, ◌≡◌, List, [], ◌∷◌}
 use Prim.Native.String.{String}
-use Rattle.md5.specs.Ascii.{ascii}
-use Rattle.md5.specs.Md5.{digest}
+use Rattle.message_digest.specs.Ascii.{ascii}
+use Rattle.message_digest.specs.Md5.{digest}
 
 -- bytes as they are printed, in hexadecimal and the first byte first, read as one number; high is that of the bytes before
 unfoldable pub printed : (high : ℕ) → List ℕ → ℕ

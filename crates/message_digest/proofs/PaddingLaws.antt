@@ -6,8 +6,8 @@ use Prim.Native.Nat.{ℕ, ◌+◌, ◌-◌, ◌%◌}
 use native.Mathlib.Omega.{arith}
 use lib.ListN.{length, length-append, length-replicate}
 use Rattle.words.proofs.LowFirstLaws.{length_low_first}
-use Rattle.md5.specs.Md5.{padding_bytes, length_bytes, padded}
-use Rattle.md5.specs.Padding.{PaddingRight}
+use Rattle.message_digest.specs.Md5.{padding_bytes, length_bytes, padded}
+use Rattle.message_digest.specs.Padding.{PaddingRight}
 
 pub length_padding : (n : ℕ) → length (padding_bytes n ++ length_bytes n) ≡ 9 + (119 - n % 64) % 64
 unfolding padding_bytes length_bytes

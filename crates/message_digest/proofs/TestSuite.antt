@@ -4,9 +4,9 @@ use mathlib.Core.Path.{refl}
 use Rattle.words.specs.Words.{word_at, low_first, rotated, auxiliary, increased}
 use Rattle.rounds.specs.Table.{table}
 use Rattle.rounds.specs.Rounds.{assigned, operated, operations, performed, block, blocks}
-use Rattle.md5.specs.Md5.{padding_bytes, length_bytes, padded, start, output, digest}
-use Rattle.md5.specs.Ascii.{ascii}
-use Rattle.md5.specs.TestSuite.{printed, TestSuiteRight}
+use Rattle.message_digest.specs.Md5.{padding_bytes, length_bytes, padded, start, output, digest}
+use Rattle.message_digest.specs.Ascii.{ascii}
+use Rattle.message_digest.specs.TestSuite.{printed, TestSuiteRight}
 
 pub test_suite_right : TestSuiteRight
 unfolding word_at low_first rotated auxiliary increased table assigned operated operations performed block blocks

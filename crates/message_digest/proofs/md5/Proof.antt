@@ -1,10 +1,10 @@
 -- The whole blocks, then the rest: the padded message's blocks.
 -- Assumes nothing.
 use borrow.Author.Rules.{rules}
-use Rattle.md5.specs.Md5.{start}
-use Rattle.md5.proofs.EndingLaws.{digest_is}
-use Rattle.md5.proofs.md5.Statement.{statement}
-use Rattle.md5.proofs.md5.Tie as tie
+use Rattle.message_digest.specs.Md5.{start}
+use Rattle.message_digest.proofs.EndingLaws.{digest_is}
+use Rattle.message_digest.proofs.md5.Statement.{statement}
+use Rattle.message_digest.proofs.md5.Tie as tie
 
 table-requires : tie.Need-table-requires
 table-requires c κs = search rules

@@ -1,7 +1,7 @@
 -- RFC 1321, 3.1 and 3.2, in its own words: what a padded message is. Proved in proofs/ as padding_right.
 use Rattle.std.specs.Prelude.{ℕ, ◌+◌, ◌*◌, ◌%◌, ◌≤◌, ◌^◌, ◌≡◌, List, ◌∷◌, ◌++◌, length, replicate}
 use Rattle.words.specs.Words.{low_first}
-use Rattle.md5.specs.Md5.{padded}
+use Rattle.message_digest.specs.Md5.{padded}
 
 pub record IsPadded (message all : List ℕ) : Type 0 where
   pub zeros : ℕ

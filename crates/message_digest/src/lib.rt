@@ -1,8 +1,10 @@
 // The MD5 digest of any bytes (RFC 1321).
+#![tactic(auto)]
+
 ghost use Rattle.std.specs.Prelude.{◌≡◌, ◌+◌, ◌<◌, ◌≤◌, ◌++◌, length, take, drop};
 ghost use Rattle.rounds.specs.Table.{table};
-ghost use Rattle.md5.specs.Md5.{output, digest};
-ghost use Rattle.md5.specs.Ending.{opening, finished};
+ghost use Rattle.message_digest.specs.Md5.{output, digest};
+ghost use Rattle.message_digest.specs.Ending.{opening, finished};
 
 use words::State;
 
