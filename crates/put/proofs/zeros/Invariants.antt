@@ -1,0 +1,14 @@
+-- The zero bytes that there is room for are stored, one to a turn. Assumes nothing.
+use Prim.Native.Nat.{◌≤◌, ◌+◌, ◌-◌}
+use mathlib.Core.Path.{◌≡◌}
+use lib.ListN.{length}
+use lib.Seq.{sets}
+use Rattle.put.specs.Puts.{zeros}
+use Rattle.put.proofs.zeros.Given as goal
+
+abbrev pub invariant-loop-i : goal.invariant-loop-i
+invariant-loop-i l = (l.i ≤ l.n) × (sets l.initial.out l.at (zeros l.n-2) ≡ sets l.out (l.at + l.i) (zeros (l.n-2 - l.i)))
+    × (length l.out ≡ length l.initial.out)
+
+abbrev pub decreases-loop-i : goal.decreases-loop-i
+decreases-loop-i l = l.n - l.i
