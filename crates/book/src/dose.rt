@@ -3,18 +3,18 @@ ghost use Rattle.std.specs.Prelude.{◌≡◌, ◌+◌, ◌≤◌, length};
 ghost use Rattle.book.specs.Book.{dose_at, dose_lawful};
 
 // An oxide's code.
-#[derive(Drop)]
+#[derive(Clone, Copy)]
 pub struct Oxide(pub u16);
 
 // A weight in milligrams.
-#[derive(Drop)]
+#[derive(Clone, Copy)]
 pub struct Milligrams(pub u32);
 
 // The number of a lot; 0 where the record has none.
-#[derive(Drop)]
+#[derive(Clone, Copy)]
 pub struct Lot(pub u32);
 
-#[derive(Drop)]
+#[derive(Clone, Copy)]
 pub struct Dose {
     pub oxide: Oxide,
     pub milligrams: Milligrams,

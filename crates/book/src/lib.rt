@@ -14,7 +14,7 @@ use format::Verdict;
 
 // A book that passed checks 19 to 22, by the number of its doses and the sum of their milligrams, or the first check
 // that failed and its place.
-#[derive(Drop)]
+#[derive(Clone, Copy)]
 pub enum Weighed {
     Doses(u32, u64),
     Unsound(u32, u32),

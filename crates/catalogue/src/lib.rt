@@ -10,7 +10,7 @@ mod numbers;
 use numbers::CATALOGUE;
 
 // One line of the catalogue.
-#[derive(Drop)]
+#[derive(Clone, Copy)]
 pub struct Line {
     pub tag: u32,
     pub ty: u32,

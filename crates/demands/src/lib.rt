@@ -6,7 +6,7 @@ ghost use Rattle.demands.specs.Demands.{ReadBoth, ReadBothBytes};
 use format::Answer;
 
 // What the readings at two editions answer.
-#[derive(Drop)]
+#[derive(Clone, Copy)]
 pub struct Answers {
     pub first: Answer,
     pub second: Answer,

@@ -3,7 +3,7 @@ ghost use Rattle.std.specs.Prelude.{◌≡◌};
 ghost use Rattle.entries.specs.Types.{element_size, is_lawful};
 
 // How far an element of a type reaches.
-#[derive(Drop)]
+#[derive(Clone, Copy)]
 pub enum ElementSize {
     Bytes(usize),
     ToZero,

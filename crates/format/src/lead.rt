@@ -3,7 +3,7 @@ ghost use Rattle.std.specs.Prelude.{◌≡◌};
 ghost use Rattle.format.specs.Lead.{lead_of};
 
 // The lead's fields that have a rule, and whether its name is ended by a zero byte.
-#[derive(Drop)]
+#[derive(Clone, Copy)]
 pub struct Lead {
     pub magic: u32,
     pub major: u8,

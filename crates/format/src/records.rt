@@ -7,7 +7,7 @@ ghost use Rattle.format.specs.Records.{header_record_at, index_record_at};
 use places::{FileOffset, StoreOffset};
 
 // The first 16 bytes of a header structure.
-#[derive(Drop)]
+#[derive(Clone, Copy)]
 pub struct HeaderRecord {
     pub magic: u32,
     pub reserved: u32,
@@ -42,7 +42,7 @@ impl HeaderRecord {
 }
 
 // One record of an index: an entry's tag, type, place of its data and count.
-#[derive(Drop)]
+#[derive(Clone, Copy)]
 pub struct IndexRecord {
     pub tag: u32,
     pub ty: u32,

@@ -8,14 +8,14 @@ use crate::records::{HeaderRecord, IndexRecord, number_within};
 use places::{FileOffset, Start, StoreOffset};
 
 // Which of a package's two header structures.
-#[derive(Drop)]
+#[derive(Clone, Copy)]
 pub enum Structure {
     Signature,
     Header,
 }
 
 // Where a structure starts in the file, its number of index records and its store's size.
-#[derive(Drop)]
+#[derive(Clone, Copy)]
 pub struct Section {
     pub start: Start,
     pub nindex: u32,

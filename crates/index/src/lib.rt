@@ -10,7 +10,7 @@ use places::FileOffset;
 use strings::Ending;
 
 // An entry: its type and count, where its data starts in the file, and how many bytes it has.
-#[derive(Drop)]
+#[derive(Clone, Copy)]
 pub struct Entry {
     pub ty: u32,
     pub count: u32,
@@ -19,14 +19,14 @@ pub struct Entry {
 }
 
 // What a search finds.
-#[derive(Drop)]
+#[derive(Clone, Copy)]
 pub enum Found {
     At(Entry),
     Nothing,
 }
 
 // The index record with a tag, where there is one.
-#[derive(Drop)]
+#[derive(Clone, Copy)]
 pub enum Tagged {
     Present(IndexRecord),
     Absent,

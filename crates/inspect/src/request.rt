@@ -2,7 +2,7 @@
 use text::Parsed;
 
 // A request by its numbers: structure, tag, type and element. Names and version texts are read where they are used.
-#[derive(Drop)]
+#[derive(Clone, Copy)]
 pub enum Request {
     Index(u32),
     Find(u32, u32, u32),

@@ -6,7 +6,7 @@ ghost use Rattle.be.specs.Numbers.{be32_at};
 ghost use Rattle.lists.specs.Lists.{record_shown, is_whole, sizes_meet};
 
 // The 16 bytes of an entry: its tag, type and count, and the size of its data.
-#[derive(Drop)]
+#[derive(Clone, Copy)]
 pub struct ListRecord {
     pub tag: u32,
     pub ty: u32,

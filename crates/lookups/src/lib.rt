@@ -10,7 +10,7 @@ use index::{Entry, Found};
 use package::{Opened, open, section_for};
 
 // What a look-up comes to: an entry, or the first check that failed and its place.
-#[derive(Drop)]
+#[derive(Clone, Copy)]
 pub enum Sought {
     Here(Entry),
     Refused(u32, u32),

@@ -12,7 +12,7 @@ use places::{FileOffset, Start};
 use structure::Checked;
 
 // A package that passed checks 2 to 13 and 28, by its signature and its header, or the first check that failed and its place.
-#[derive(Drop)]
+#[derive(Clone, Copy)]
 pub enum Opened {
     Sound(Section, Section),
     Unsound(u32, u32),

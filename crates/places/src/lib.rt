@@ -10,15 +10,15 @@ ghost use Rattle.places.specs.Behind.{behind};
 use strings::Ending;
 
 // A place in the file.
-#[derive(Drop)]
+#[derive(Clone, Copy)]
 pub struct FileOffset(usize);
 
 // A place in a store, from the store's start.
-#[derive(Drop)]
+#[derive(Clone, Copy)]
 pub struct StoreOffset(u32);
 
 // Where a structure starts: a place in the file of 32 bits, so that every place in the structure fits.
-#[derive(Drop)]
+#[derive(Clone, Copy)]
 pub struct Start(u32);
 
 impl FileOffset {

@@ -13,7 +13,7 @@ use places::FileOffset;
 use reasons::Own;
 
 // The sizes of a package: the signature's store, where the header starts, the header's store, the whole length.
-#[derive(Drop)]
+#[derive(Clone, Copy)]
 pub struct Sizes {
     pub signature: u32,
     pub start: u32,
@@ -22,7 +22,7 @@ pub struct Sizes {
 }
 
 // The sizes of a package that fits, or the refusal.
-#[derive(Drop)]
+#[derive(Clone, Copy)]
 pub enum Plan {
     Fits(Sizes),
     Refused(u32, u32),

@@ -12,7 +12,7 @@ use format::{Section, Verdict};
 use package::Opened;
 
 // The dose count of a package that passed its checks, or the first check that failed and its place.
-#[derive(Drop)]
+#[derive(Clone, Copy)]
 pub enum Weighing {
     Doses(u32),
     Refused(u32, u32),

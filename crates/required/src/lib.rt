@@ -29,7 +29,7 @@ impl Require {
 }
 
 // A name among the required ones: its number, where it is one of them.
-#[derive(Drop)]
+#[derive(Clone, Copy)]
 enum Named {
     Number(u32),
     Nowhere,
@@ -37,7 +37,7 @@ enum Named {
 
 // What is required for a name: the header and the entry of the versions, with the name's number, which its version has too;
 // or the first check that failed and its place.
-#[derive(Drop)]
+#[derive(Clone, Copy)]
 pub enum Requirement {
     Beside(Section, Entry, u32),
     Refused(u32, u32),

@@ -7,7 +7,7 @@ ghost use Rattle.runs.specs.Runs.{kind, letter, digit, front, of_kind, is_zero, 
 ghost use Rattle.runs.specs.Common.{common, byte_of, by_first};
 
 // How one text or run stands to another.
-#[derive(Drop)]
+#[derive(Clone, Copy)]
 pub enum Order {
     Older,
     Same,
@@ -15,7 +15,7 @@ pub enum Order {
 }
 
 // How one run stands to another; where they are the same, how many bytes each has.
-#[derive(Drop)]
+#[derive(Clone, Copy)]
 pub enum Met {
     Older,
     Same(usize, usize),

@@ -6,7 +6,7 @@ ghost use Rattle.std.specs.Prelude.{◌≡◌, ℕ, ◌+◌, ◌-◌, ◌≤◌,
 ghost use Rattle.strings.specs.Strings.{strings_from, next_zero, empty_strings, is_ended};
 
 // Where a run of strings ends.
-#[derive(Drop)]
+#[derive(Clone, Copy)]
 pub enum Ending {
     Ends(usize),
     Open,

@@ -11,7 +11,7 @@ use format::{HeaderRecord, Section, Structure, Verdict};
 use places::Start;
 
 // A structure that passed its checks, or the first check that failed and its place.
-#[derive(Drop)]
+#[derive(Clone, Copy)]
 pub enum Checked {
     Sound(Section),
     Unsound(u32, u32),

@@ -11,7 +11,7 @@ ghost use Rattle.text.specs.Hex.{hex_digit, hex_line, Spelled};
 pub use lines::line;
 
 // What a word says.
-#[derive(Drop)]
+#[derive(Clone, Copy)]
 pub enum Parsed {
     Number(u32),
     Other,

@@ -12,13 +12,13 @@ use package::{Opened, open, section_for};
 use places::StoreOffset;
 
 // A position in an index: the number of a record.
-#[derive(Drop)]
+#[derive(Clone, Copy)]
 pub struct Position {
     pub number: u32,
 }
 
 // What a step answers: number and place, the record's four numbers, and the next position.
-#[derive(Drop)]
+#[derive(Clone, Copy)]
 pub struct Step {
     pub answer: Answer,
     pub found: IndexRecord,

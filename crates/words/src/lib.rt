@@ -5,7 +5,7 @@ ghost use Rattle.std.specs.Prelude.{◌≡◌, ◌+◌, ◌*◌, ◌%◌, ◌^�
 ghost use Rattle.words.specs.Words.{plus, rotated, auxiliary, increased, low_first};
 
 // The registers A, B, C and D.
-#[derive(Drop)]
+#[derive(Clone, Copy)]
 pub struct State {
     pub a: u32,
     pub b: u32,
@@ -14,7 +14,7 @@ pub struct State {
 }
 
 // The rounds of a block.
-#[derive(Drop)]
+#[derive(Clone, Copy)]
 pub enum Round {
     One,
     Two,
