@@ -23,7 +23,7 @@ pub enum Met {
 }
 
 // The kinds of bytes, by rank: what only separates, letters, digits.
-#[derive(Drop)]
+#[derive(Clone, Copy)]
 pub struct Kind {}
 
 impl Kind {

@@ -1,0 +1,6 @@
+-- The four numbers are read one by one. Assumes nothing.
+use Rattle.format.proofs.RecordLaws as laws
+use Rattle.format.proofs.records.IndexRecord.within.Goals as goal
+
+pub returns : goal.returns
+returns c = search laws.index_read_at

@@ -1,0 +1,13 @@
+-- `runs::same_front` meets its contract. The loop's invariant: the bytes in common are those passed and those from here on.
+-- Assumes nothing.
+use Prim.Native.Nat.{◌+◌, ◌-◌, ◌≤◌}
+use mathlib.Core.Path.{◌≡◌}
+use lib.ListN.{length, drop}
+use Rattle.runs.specs.Common.{common}
+use Rattle.runs.proofs.same_front.Given as goal
+
+abbrev pub invariant-loop-i : goal.invariant-loop-i
+invariant-loop-i l = (l.i ≤ length l.a) × (l.i ≤ length l.b) × (common l.k l.a l.b ≡ l.i + common l.k (drop l.i l.a) (drop l.i l.b))
+
+abbrev pub decreases-loop-i : goal.decreases-loop-i
+decreases-loop-i l = length l.a - l.i
