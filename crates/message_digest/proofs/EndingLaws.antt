@@ -1,7 +1,7 @@
 -- The last one or two blocks: the buffer's first bytes are what is left of the message and the padding, and the blocks of the
 -- padded message are the message's whole blocks, then those of the buffer.
 -- Assumes nothing.
-use mathlib.Core.Path.{◌≡◌, sym, ap, ◌∙◌}
+use mathlib.Core.Path.{◌≡◌, refl, sym, ap, ◌∙◌}
 use mathlib.Core.List.{List, ◌∷◌, ◌++◌, append_assoc, append-nil}
 use Prim.Native.Nat.{ℕ, suc, ◌+◌, ◌-◌, ◌*◌, ◌/◌, ◌%◌, ◌<◌, ◌≤◌}
 use native.Mathlib.Omega.{arith}
@@ -23,28 +23,22 @@ zeros_split : (a b c : ℕ) → c ≡ a + b → replicate {A = ℕ} c 0 ≡ repl
 zeros_split a b c e = ap (λ (k : ℕ). replicate {A = ℕ} k 0) e ∙ sym (replicate-append-replicate a b 0)
 
 -- the buffer as `opened` makes it
-pub opening_set : (r l : List ℕ) (k : ℕ) → length r < 64 → l ≡ take (length r) r ++ drop (length r) (replicate 128 0)
-    → k ≡ length r → set l k 128 ≡ opening r
+pub opening_set : (r l : List ℕ) → length r < 64 → l ≡ r → set (l ++ drop (length r) (replicate 128 0)) (length r) 128 ≡ opening r
 unfolding opening
-opening_set r l k h e f =
+opening_set r l h e =
     let n = length r in
     let one : replicate {A = ℕ} 128 0 ≡ replicate n 0 ++ 0 ∷ replicate (127 - n) 0 =
     zeros_split n (suc (127 - n)) 128 (omega arith) in
     let two : drop n (replicate {A = ℕ} 128 0) ≡ 0 ∷ replicate (127 - n) 0 =
     ap (drop n) one ∙ drop_at (replicate n 0) (0 ∷ replicate (127 - n) 0) n (length-replicate n 0) in
-    let three : l ≡ r ++ 0 ∷ replicate (127 - n) 0 =
-    e ∙ ap (λ (x : List ℕ). x ++ drop n (replicate {A = ℕ} 128 0)) (take-length r) ∙ ap (λ (x : List ℕ). r ++ x) two in
-    ap (λ (x : List ℕ). set x k 128) three ∙ set_at r 0 (replicate (127 - n) 0) 128 k (sym f)
+    let three : l ++ drop n (replicate {A = ℕ} 128 0) ≡ r ++ 0 ∷ replicate (127 - n) 0 =
+    ap (λ (x : List ℕ). x ++ drop n (replicate {A = ℕ} 128 0)) e ∙ ap (λ (x : List ℕ). r ++ x) two in
+    ap (λ (x : List ℕ). set x n 128) three ∙ set_at r 0 (replicate (127 - n) 0) 128 n refl
 
 -- eight bytes put in at a place
-pub pasted : (xs ys zs : List ℕ) (a : ℕ) → length xs ≡ 128 → length ys ≡ 8 → a ≤ 120
-    → zs ≡ take (length ys) ys ++ drop (length ys) (mid_of a (a + 8 - a) xs)
-    → put_mid a (a + 8 - a) xs zs ≡ take a xs ++ (ys ++ drop (a + 8) xs)
-pasted xs ys zs a hx hy ha e =
-    let m : length (mid_of a (a + 8 - a) xs) ≤ length ys = omega (arith, mid_len a (a + 8) xs (omega arith)) in
-    let z : zs ≡ ys = e ∙ ap (λ (x : List ℕ). x ++ drop (length ys) (mid_of a (a + 8 - a) xs)) (take-length ys)
-    ∙ ap (λ (x : List ℕ). ys ++ x) (drop_of_length-le (mid_of a (a + 8 - a) xs) m) ∙ append-nil ys in
-    ap (λ (x : List ℕ). take a xs ++ (x ++ post_of a (a + 8 - a) xs)) z
+pub pasted : (xs ys zs : List ℕ) (a : ℕ) → zs ≡ ys → put_mid a (a + 8 - a) xs zs ≡ take a xs ++ (ys ++ drop (a + 8) xs)
+pasted xs ys zs a e =
+    ap (λ (x : List ℕ). take a xs ++ (x ++ post_of a (a + 8 - a) xs)) e
     ∙ ap (λ (x : List ℕ). take a xs ++ (ys ++ x)) (Post-is a (a + 8) xs (omega arith))
 
 module _ (s : List ℕ) where

@@ -14,7 +14,8 @@ fn opened(left: &[u8]) -> [u8; 128]
     ensures { result ≡ opening left.now }
 {
     let mut last = [0u8; 128];
-    let n = bytes::copy(left, &mut last);
+    let n = left.len();
+    last[..n].copy_from_slice(left);
     last[n] = 128;
     last
 }
@@ -26,7 +27,7 @@ fn closed(last: [u8; 128], count: [u8; 8], at: usize) -> [u8; 128]
 {
     let mut all = last;
     let end = at + 8;
-    bytes::copy(&count, &mut all[at..end]);
+    all[at..end].copy_from_slice(&count);
     all
 }
 

@@ -1,3 +1,5 @@
+use mathlib.Core.Path.{ap}
+use mathlib.Core.Bool.{not}
 use lib.ListN.{length}
 use native.Mathlib.Omega.{arith}
 use native.Mathlib.Nat.{sub-zero, zero-add}
@@ -26,7 +28,7 @@ pub returns-then-len-at : goal.returns-then-len-at
 returns-then-len-at c =
     laws.weighed_past _ _ _ c.loop-at-test.true (end_of c.args.book.now _ c.body_size.ensures)
     c.is_weighed.ensures c.loop-at.invariant.0 c.if-is_weighed.true c.known.ensures
-    c.if-not-known.false c.if-len-at.true _ _
+    (ap not c.if-not-known.false) c.if-len-at.true _ _
 
 pub within-dose-requires : goal.within-dose-requires
 within-dose-requires c = search (laws.within_book, end_of)
@@ -34,8 +36,8 @@ within-dose-requires c = search (laws.within_book, end_of)
 pub returns-then-not-lawful : goal.returns-then-not-lawful
 returns-then-not-lawful c =
     laws.unlawful _ _ _ c.loop-at-test.true (end_of c.args.book.now _ c.body_size.ensures) c.is_weighed.ensures
-    c.loop-at.invariant.0 c.if-is_weighed.true c.known.ensures c.if-not-known.false c.if-len-at.false
-    c.within-dose.ensures c.lawful.ensures c.if-not-lawful.true _ _
+    c.loop-at.invariant.0 c.if-is_weighed.true c.known.ensures (ap not c.if-not-known.false) c.if-len-at.false
+    c.within-dose.ensures c.lawful.ensures (ap not c.if-not-lawful.true) _ _
 
 pub loop-at-preserved-then-is_weighed : goal.loop-at-preserved-then-is_weighed
 loop-at-preserved-then-is_weighed c = (search (laws.weighed_turn, end_of), search (laws.counted, end_of), search (laws.summed, end_of), search rules, search rules)
