@@ -6,7 +6,7 @@ use borrow.Author.Rules.{rules}
 use Rattle.elements.proofs.element_of.Goals as goal
 
 pub overflow_mul-before : goal.overflow_mul-before
-overflow_mul-before c = omega (arith, product _ c.args.k c.element_size-size.ensures c.size-1.given.1 (search rules))
+overflow_mul-before c = omega (arith, product _ c.args.k c.element_size-size.ensures c.in-Bytes.is (search rules))
 
 pub returns-in-Bytes : goal.returns-in-Bytes
 returns-in-Bytes c = search laws.element_fixed

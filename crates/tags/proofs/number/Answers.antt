@@ -8,8 +8,9 @@ use Rattle.tags.proofs.number.Goals as goal
 
 pub returns-in-Present : goal.returns-in-Present
 returns-in-Present c =
-    by_case (number_at _ _) (shown_by _ _) (search) c.found-1.given.1
-    (c.number.ensures ∙ ap (be32_at _) c.in_file-at.ensures)
+    by_case (number_at c.args.pkg.now c.args.section) (shown_by c.args.table.now c.args.tag) (search) c.in-Present.is
+    (c.number.ensures ∙ ap (be32_at c.args.pkg.now) c.in_file-at.ensures)
 
 pub returns-in-Absent : goal.returns-in-Absent
-returns-in-Absent c = by_case (number_at _ _) (shown_by _ _) (search) c.in-Absent.is refl
+returns-in-Absent c =
+    by_case (number_at c.args.pkg.now c.args.section) (shown_by c.args.table.now c.args.tag) (search) c.in-Absent.is refl

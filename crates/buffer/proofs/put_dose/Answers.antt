@@ -1,0 +1,7 @@
+-- The three stores, one behind the other.
+-- Assumes nothing.
+use Rattle.buffer.proofs.BufferLaws as laws
+use Rattle.buffer.proofs.put_dose.Goals as goal
+
+pub returns : goal.returns
+returns c = search laws.three_numbers
