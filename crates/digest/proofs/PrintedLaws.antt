@@ -2,9 +2,9 @@
 -- Assumes nothing.
 use mathlib.Core.Path.{◌≡◌, sym, ap, ◌∙◌}
 use mathlib.Core.List.{List, ◌++◌}
-use Prim.Native.Nat.{ℕ, ◌+◌, ◌<◌, ◌≤◌}
+use Prim.Native.Nat.{ℕ, ◌<◌, ◌≤◌}
 use native.Mathlib.Omega.{arith}
-use lib.ListN.{length, take, drop, length-append}
+use lib.ListN.{length, take, length-append}
 use lib.Seq.{take-length, take_at}
 use borrow.Author.Tests.{lt-leb, le-leb}
 use Rattle.message_digest.specs.Ascii.{ascii}
@@ -12,24 +12,16 @@ use Rattle.message_digest.specs.Md5.{digest}
 use Rattle.text.specs.Hex.{hex_line}
 use Rattle.digest.specs.Printed.{printed}
 
-module _ (message src before after : List ℕ) (n : ℕ) (count : n ≡ length src)
-    (copied : after ≡ take (length src) src ++ drop (length src) before) where
-  front : take n after ≡ src
-  front =
-      let rest = drop (length src) before in
-      ap (take n) (copied ∙ ap (λ (x : List ℕ). x ++ rest) (take-length src)) ∙ take_at src rest n (sym count)
+module _ (message src : List ℕ) (n : ℕ) (count : n ≡ length src) where
+  pub fits : (rest : List ℕ) → n ≤ length (src ++ rest)
+  fits rest = omega (arith, length-append src rest)
 
-  pub fits : n ≤ length after
-  fits =
-      let e : length after ≡ length src + length (drop (length src) before) =
-      ap length (copied ∙ ap (λ (x : List ℕ). x ++ drop (length src) before) (take-length src)) ∙ length-append src _ in
-      omega arith
-
-  pub too_large : 65536 < length message → src ≡ ascii "too large for this program\n" → take n after ≡ printed message
+  pub too_large : (rest : List ℕ) → 65536 < length message → src ≡ ascii "too large for this program\n"
+      → take n (src ++ rest) ≡ printed message
   unfolding printed
-  too_large h e = rw (lt-leb (length message) 65536 h) (front ∙ e)
+  too_large rest h e = rw (lt-leb (length message) 65536 h) (take_at src rest n (sym count) ∙ e)
 
   pub spelled : (sum : List ℕ) → length message ≤ 65536 → sum ≡ digest message → src ≡ hex_line sum
-      → take n after ≡ printed message
+      → take n src ≡ printed message
   unfolding printed
-  spelled sum h s e = rw (le-leb (length message) 65536 h) (front ∙ e ∙ ap hex_line s)
+  spelled sum h s e = rw (le-leb (length message) 65536 h) (rw count (take-length src) ∙ e ∙ ap hex_line s)

@@ -5,7 +5,7 @@
 ghost use Rattle.std.specs.Prelude.{◌≡◌, ◌≤◌, length, take};
 ghost use Rattle.digest.specs.Printed.{printed};
 
-use libc::STDOUT_FILENO;
+use std::io;
 
 // The most bytes that are read.
 const LIMIT: usize = 65536;
@@ -18,35 +18,36 @@ fn answer(message: &[u8], out: &mut [u8; 33]) -> usize
     ensures { (result ≤ length out.new) × (take result out.new ≡ printed message.now) }
 {
     if LIMIT < message.len() {
-        return bytes::copy(b"too large for this program\n", out);
+        let refusal = b"too large for this program\n";
+        let n = refusal.len();
+        out[..n].copy_from_slice(refusal);
+        return n;
     }
-    let line = text::hex_line(message_digest::md5(message));
-    bytes::copy(&line, out)
+    *out = text::hex_line(message_digest::md5(message));
+    out.len()
 }
 
 // Writes what belongs to a message.
-fn put_answer(message: &[u8]) {
+fn put_answer(rt: &impl Print, message: &[u8]) -> io::Result<()> {
     let mut out = [0u8; 33];
     let n = answer(message, &mut out);
-    io::write_all(STDOUT_FILENO, &out[..n]);
+    rt.write_all(&out[..n])
 }
 
 // Reads a message from standard input, and writes what belongs to it.
-fn put_input() {
+fn put_input(rt: &(impl Input + Print)) -> io::Result<()> {
     let mut room = [0u8; ROOM];
-    let got = input::read(&mut room);
+    let got = input::read(&mut rt.reader(), &mut room);
     if got.failed {
-        io::write_all(STDOUT_FILENO, b"cannot read standard input\n");
-        return;
+        return rt.write_all(b"cannot read standard input\n");
     }
     let n = got.count;
-    put_answer(&room[..n]);
+    put_answer(rt, &room[..n])
 }
 
-fn main() {
-    if 1 < os::arg_count() {
-        io::write_all(STDOUT_FILENO, b"usage: digest < FILE\n");
-        return;
+fn main(rt: HostRuntime) -> io::Result<()> {
+    if 1 < input::arg_count(&rt) {
+        return rt.write_all(b"usage: digest < FILE\n");
     }
-    put_input();
+    put_input(&rt)
 }

@@ -1,32 +1,31 @@
-// Standard input, for the programs.
-// It is read up to its end, a read that fails, or as much as there is room for.
+// Standard input, and how many arguments there are, for the programs.
+// Input is read up to its end, a read that fails, or as much as there is room for.
 #![tactic(auto)]
 
-ghost use Rattle.io.specs.Counts.{IsPrefixLen};
+ghost use Rattle.input.specs.Counts.{IsPrefixLen};
 
-use libc::STDIN_FILENO;
+use std::env::{Env, FillError};
+use std::io::Read;
 
-// What a reading of standard input gave: how many bytes, and whether a read failed.
+// What a reading of input gave: how many bytes, and whether a read failed.
 #[derive(Clone, Copy)]
 pub struct Input {
     pub count: usize,
     pub failed: bool,
 }
 
-// Reads standard input to the front of `room`, up to its end, a read that fails, or as much as `room` holds.
-pub fn read(room: &mut [u8]) -> Input
+// Reads input to the front of `room`, up to its end, a read that fails, or as much as `room` holds.
+pub fn read(from: &mut impl Read, room: &mut [u8]) -> Input
     ensures { IsPrefixLen result.count room.new }
 {
     let mut done = 0;
     while done < room.len() {
-        let got = libc::read(STDIN_FILENO, &mut room[done..]);
-        if got < 0 {
+        let Ok(more) = from.read(&mut room[done..]) else {
             return Input {
                 count: done,
                 failed: true,
             };
-        }
-        let more = io::count(got, &room[done..]);
+        };
         if more == 0 {
             break;
         }
@@ -36,4 +35,24 @@ pub fn read(room: &mut [u8]) -> Input
         count: done,
         failed: false,
     }
+}
+
+// Whether argument `i` is there, also one of no bytes.
+fn is_argument(rt: &impl Env, i: usize) -> bool {
+    let mut none = [0u8; 1];
+    match rt.arg(i, &mut none) {
+        Ok(_) => true,
+        Err(FillError::TooLong) => true,
+        Err(FillError::NotPresent) => false,
+    }
+}
+
+// How many arguments there are, the program's name among them.
+pub fn arg_count(rt: &impl Env) -> usize {
+    for i in 0..usize::MAX {
+        if !is_argument(rt, i) {
+            return i;
+        }
+    }
+    usize::MAX
 }

@@ -18,6 +18,7 @@ pub enum Parsed {
 }
 
 // The number that a word spells: one or more decimal digits, of a value that fits 32 bits.
+#[tactic(auto, using(crate::proofs::DecimalLaws::low, crate::proofs::DecimalLaws::high, crate::proofs::DecimalLaws::over))]
 pub fn decimal(word: &[u8]) -> Parsed
     ensures { result ≡ decimal_of word.now }
 {

@@ -2,24 +2,29 @@
 // It takes no input, and writes what A.5 has.
 #![tactic(auto)]
 
-use libc::STDOUT_FILENO;
+use std::io;
 
 // Writes a message and its digest.
-fn put(message: &[u8]) {
-    io::write_all(STDOUT_FILENO, b"MD5 (\"");
-    io::write_all(STDOUT_FILENO, message);
-    io::write_all(STDOUT_FILENO, b"\") = ");
-    let line = text::hex_line(message_digest::md5(message));
-    io::write_all(STDOUT_FILENO, &line);
+fn put(rt: &impl Print, message: &[u8]) -> io::Result<()> {
+    rt.write_all(b"MD5 (\"")?;
+    rt.write_all(message)?;
+    rt.write_all(b"\") = ")?;
+    rt.write_all(&text::hex_line(message_digest::md5(message)))
 }
 
-fn main() {
-    io::write_all(STDOUT_FILENO, b"MD5 test suite:\n");
-    put(b"");
-    put(b"a");
-    put(b"abc");
-    put(b"message digest");
-    put(b"abcdefghijklmnopqrstuvwxyz");
-    put(b"ABCDEFGHIJKLMNOPQRSTUVWXYZabcdefghijklmnopqrstuvwxyz0123456789");
-    put(b"12345678901234567890123456789012345678901234567890123456789012345678901234567890");
+fn main(rt: HostRuntime) -> io::Result<()> {
+    rt.write_all(b"MD5 test suite:\n")?;
+    put(&rt, b"")?;
+    put(&rt, b"a")?;
+    put(&rt, b"abc")?;
+    put(&rt, b"message digest")?;
+    put(&rt, b"abcdefghijklmnopqrstuvwxyz")?;
+    put(
+        &rt,
+        b"ABCDEFGHIJKLMNOPQRSTUVWXYZabcdefghijklmnopqrstuvwxyz0123456789",
+    )?;
+    put(
+        &rt,
+        b"12345678901234567890123456789012345678901234567890123456789012345678901234567890",
+    )
 }
