@@ -1,9 +1,9 @@
 -- A turn of the search for the first record with a tag: one by one (ends, turn), and four at a time, by the tags (turn_4) or by
 -- their last bytes (turn_low_4).
 use Prim.Native.Nat.{ℕ, ◌+◌, ◌-◌, ◌*◌, ◌%◌, ◌≤◌, ◌<◌}
-use mathlib.Core.Path.{◌≡◌, refl, sym, ap, ◌∙◌}
+use mathlib.Core.Path.{◌≡◌, refl, sym, ◌∙◌}
 use mathlib.Core.List.{List}
-use mathlib.Core.Bool.{Bool, true, false}
+use mathlib.Core.Bool.{Bool, false}
 use lib.ListN.{get_or, drop}
 use lib.Dec.{eqb}
 use native.Mathlib.Omega.{arith}

@@ -21,8 +21,6 @@ use Rattle.format.specs.Records.{index_record_at}
 use Rattle.index.specs.declared.Entry.{Entry}
 use Rattle.index.specs.declared.Found.{Found}
 use Rattle.index.specs.declared.Found.TheVariants.{At, Nothing}
-use Rattle.index.specs.declared.Tagged.{Tagged}
-use Rattle.index.specs.declared.Tagged.TheVariants.{Present, Absent}
 use Rattle.entries.specs.Entries.{record_at, data_end}
 use Rattle.index.specs.Lookup.{extent_to, entry_of, entry_at, is_for, find_from}
 

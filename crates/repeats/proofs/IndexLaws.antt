@@ -1,8 +1,7 @@
 -- The first record of a structure that repeats a tag is that of its row of records (searched).
 use Prim.Native.Nat.{ℕ, zero, suc, ◌*◌}
-use mathlib.Core.Path.{◌≡◌, refl, sym, ◌∙◌}
+use mathlib.Core.Path.{◌≡◌, refl, ◌∙◌}
 use mathlib.Core.List.{List}
-use mathlib.Core.Bool.{Bool}
 use lib.ListN.{length, take, drop}
 use Rattle.be.specs.Numbers.{be32_at}
 use Rattle.format.specs.declared.section.Section.{Section}

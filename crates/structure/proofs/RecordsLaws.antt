@@ -1,8 +1,8 @@
 -- A turn of the run over a structure's records, from what was read in it: turn, next, ends.
 use Prim.Native.Nat.{ℕ, ◌+◌, ◌-◌, ◌<◌}
-use mathlib.Core.Path.{◌≡◌, refl, sym, ap, ◌∙◌}
+use mathlib.Core.Path.{◌≡◌, sym, ◌∙◌}
 use mathlib.Core.List.{List}
-use mathlib.Core.Bool.{Bool, true, false, not}
+use mathlib.Core.Bool.{not}
 use lib.Dec.{eqb}
 use borrow.Author.Tests.{not-true}
 use Rattle.format.specs.declared.section.Section.{Section}
@@ -17,7 +17,7 @@ use Rattle.format.proofs.VerdictLaws.{inverted, both_inverted}
 use Rattle.among.specs.Among.{first_from}
 use Rattle.among.proofs.FirstLaws as first
 use Rattle.repeats.specs.Repeats.{tag_before, repeated_in}
-use Rattle.entries.specs.Entries.{record_at, data_end, data_check, entry_check, record_check}
+use Rattle.entries.specs.Entries.{record_at, data_end, data_check, record_check}
 use Rattle.entries.proofs.EntryLaws.{entry_as}
 
 -- e is the record that was read, r what its checks found, repeat the first record that repeats a tag, and v what the run

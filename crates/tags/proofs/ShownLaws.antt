@@ -1,23 +1,20 @@
 -- A gathered table shows, for each tag that has a slot, what the index shows: gathered_shows.
-use Prim.Native.Nat.{ℕ, zero, suc, ◌+◌, ◌-◌, ◌*◌, ◌≤◌, ◌<◌}
+use Prim.Native.Nat.{ℕ, zero, suc, ◌+◌, ◌*◌, ◌≤◌, ◌<◌}
 use mathlib.Core.Path.{◌≡◌, refl, sym, ap, subst, ◌∙◌}
 use mathlib.Core.Logic.{◌⊎◌, inl, inr}
 use mathlib.Core.List.{List, [], ◌∷◌}
 use mathlib.Core.Bool.{Bool, true, false, cond}
-use lib.ListN.{length, get_or, length-replicate, get_or-replicate}
+use lib.ListN.{length, length-replicate, get_or-replicate}
 use lib.Seq.{sets, length-sets}
 use lib.Dec.{eqb, ltb}
 use native.Mathlib.Omega.{arith}
 use borrow.Author.Tests.{eqb-true, eqb-false, lt-ltb, ltb-true, ltb-false}
-use Rattle.be.specs.Numbers.{be32_at}
 use Rattle.format.specs.declared.section.Section.{Section}
 use Rattle.format.specs.declared.records.IndexRecord.{IndexRecord}
-use Rattle.format.specs.Places.{record_place}
 use Rattle.entries.specs.Entries.{record_at}
 use Rattle.index.specs.declared.Tagged.{Tagged}
 use Rattle.index.specs.declared.Tagged.TheVariants.{Present, Absent}
 use Rattle.index.specs.Lookup.{tagged_from, tagged_in}
-use Rattle.tags.specs.Tags.{Look}
 use Rattle.tags.specs.Tables.{slots, slot_of, has_slot, table_numbers, record_in, shown_by, noted}
 use Rattle.tags.specs.Tables.{gathered_from, gathered, empty_table, with_slots}
 use Rattle.tags.proofs.TableLaws.{no_slot, there, other}

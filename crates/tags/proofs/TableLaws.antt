@@ -1,9 +1,9 @@
 -- What a table shows for a tag, from what was read of it (no_slot, other, there), and what the rules ask of it then
 -- (has_no_slot .. count_there). What a note leaves (left_out, put).
 use Prim.Native.Nat.{ℕ, suc, ◌+◌, ◌*◌, ◌≤◌, ◌<◌}
-use mathlib.Core.Path.{◌≡◌, refl, sym, ap, ◌∙◌}
+use mathlib.Core.Path.{◌≡◌, ap, ◌∙◌}
 use mathlib.Core.List.{List, [], ◌∷◌}
-use mathlib.Core.Bool.{Bool, true, false}
+use mathlib.Core.Bool.{true, false}
 use lib.ListN.{get_or, set}
 use lib.Seq.{sets}
 use native.Mathlib.Omega.{arith}
@@ -12,7 +12,6 @@ use borrow.Author.Tests.{eq-eqb, ne_eqb, lt-ltb, le-ltb}
 use Rattle.be.specs.Numbers.{be32_at}
 use Rattle.places.specs.declared.StoreOffset.{StoreOffset}
 use Rattle.format.specs.Records.{index_record_at}
-use Rattle.index.specs.declared.Tagged.{Tagged}
 use Rattle.index.specs.declared.Tagged.TheVariants.{Present, Absent}
 use Rattle.tags.specs.Tags.{is_present, count_of}
 use Rattle.tags.specs.Tables.{slots, slot_of, record_in, shown_by, noted}

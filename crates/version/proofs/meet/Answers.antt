@@ -1,9 +1,7 @@
 -- `version::meet` meets its contract: the answer for the texts from the two places on, moved there.
 -- Assumes nothing.
 use Rattle.version.proofs.TextLaws as laws
-use Prim.Native.Nat.{◌+◌, ◌≤◌}
 use native.Mathlib.Omega.{arith}
-use lib.ListN.{length}
 use borrow.Author.Rules.{rules}
 use Rattle.version.proofs.meet.Goals as goal
 
