@@ -1,7 +1,7 @@
 #!/bin/sh
 # Measures the library against the reference, and against librpm and openssl where their
 # development files are (Debian: librpm-dev, libssl-dev): run from the repository's root, after
-# `rt staticlib station`. STATION_LIB names another library to measure; LIBRPM=no leaves librpm
+# `tests/build.sh station`. STATION_LIB names another library to measure; LIBRPM=no leaves librpm
 # out, OPENSSL=no openssl. BEFORE_LIB names an older library: it is measured beside the library, for
 # the section on before and after, which stays as it is without.
 #
@@ -25,7 +25,7 @@ case $mode in
 --show | --write | --check | --build) ;;
 *) echo "usage: tests/bench.sh [--write | --check | --build]" >&2; exit 2 ;;
 esac
-[ -f "$lib" ] || { echo "bench: no $lib (rt staticlib station makes it)" >&2; exit 1; }
+[ -f "$lib" ] || { echo "bench: no $lib (tests/build.sh station makes it)" >&2; exit 1; }
 [ -z "${BEFORE_LIB:-}" ] || [ -f "$BEFORE_LIB" ] || { echo "bench: no $BEFORE_LIB" >&2; exit 1; }
 
 mkdir -p "$out"

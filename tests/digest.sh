@@ -1,16 +1,15 @@
 #!/bin/bash
 # Tests the call station_digest and the programs digest and vectors against md5sum, and against Python's hashlib where Python 3
-# is there; and the table of crates/rounds against RFC 1321's definition of it. Run from the repository's root, after `rt check`
-# built the programs and `rt staticlib station` the library. STATION_LIB names another library to test, DIGEST and VECTORS
-# other programs.
+# is there; and the table of crates/rounds against RFC 1321's definition of it. Run from the repository's root, after
+# `tests/build.sh`. STATION_LIB names another library to test, DIGEST and VECTORS other programs.
 set -euo pipefail
 
 lib=${STATION_LIB:-target/staticlib/libstation.a}
 digest=${DIGEST:-target/bin/digest}
 vectors=${VECTORS:-target/bin/vectors}
-[ -f "$lib" ] || { echo "tests: no $lib (rt staticlib station makes it)" >&2; exit 1; }
+[ -f "$lib" ] || { echo "tests: no $lib (tests/build.sh station makes it)" >&2; exit 1; }
 for program in "$digest" "$vectors"; do
-    [ -x "$program" ] || { echo "tests: no $program (rt check makes it)" >&2; exit 1; }
+    [ -x "$program" ] || { echo "tests: no $program (tests/build.sh makes it)" >&2; exit 1; }
 done
 work=$(mktemp -d)
 trap 'rm -r "$work"' EXIT

@@ -1,11 +1,11 @@
 #!/bin/bash
-# Tests the program doses: run from the repository's root, after `rt check` built target/bin/doses.
+# Tests the program doses: run from the repository's root, after `tests/build.sh` made target/bin/doses.
 # DOSES names another program to test.
 set -euo pipefail
 
 doses=${DOSES:-target/bin/doses}
 data=crates/samples/data
-[ -x "$doses" ] || { echo "tests: no $doses (rt check makes it)" >&2; exit 1; }
+[ -x "$doses" ] || { echo "tests: no $doses (tests/build.sh makes it)" >&2; exit 1; }
 cases=0
 
 # gives FILE LINE..: the whole output for a package

@@ -1,12 +1,12 @@
 #!/bin/bash
 # Tests docs/FORMAT.md: its catalogue is the program's and the printed tables', and its packages are read as it says. Run
-# from the repository's root, after `rt check` built target/bin/doses, target/bin/inspect and target/bin/digest.
+# from the repository's root, after `tests/build.sh` made target/bin/doses, target/bin/inspect and target/bin/digest.
 set -euo pipefail
 
 page=docs/FORMAT.md
 doses=target/bin/doses
 for program in "$doses" target/bin/inspect target/bin/digest; do
-    [ -x "$program" ] || { echo "tests: no $program (rt check makes it)" >&2; exit 1; }
+    [ -x "$program" ] || { echo "tests: no $program (tests/build.sh makes it)" >&2; exit 1; }
 done
 work=$(mktemp -d)
 trap 'rm -r "$work"' EXIT
@@ -29,9 +29,11 @@ awk -F '[, ]+' '
         split("optional required required_from_edition_2_on", statuses, " ")
     }
     /^    [0-9]+,/ {
-        n[numbers++ % 4] = $2
-        if (numbers % 4 == 0)
-            print ++lines <= 11 ? "signature" : "header", n[0], n[1] "_" types[n[1]], n[2] == 0 ? "any" : n[2], statuses[n[3] + 1]
+        for (i = 2; $i ~ /^[0-9]+$/; i++) {
+            n[numbers++ % 4] = $i
+            if (numbers % 4 == 0)
+                print ++lines <= 11 ? "signature" : "header", n[0], n[1] "_" types[n[1]], n[2] == 0 ? "any" : n[2], statuses[n[3] + 1]
+        }
     }' crates/catalogue/src/numbers.rt > "$work/program"
 cut -d ' ' -f 1-5 "$work/page" | diff - "$work/program" || fail "$page: not the catalogue of crates/catalogue"
 

@@ -1,5 +1,5 @@
 #!/bin/sh
-# Fuzzing of the C calls: run from the repository's root, after `rt staticlib station`.
+# Fuzzing of the C calls: run from the repository's root, after `tests/build.sh station`.
 #
 #     tests/fuzz.sh                   a short run, the same each time, with rustc alone
 #     tests/fuzz.sh MINUTES [SEED]    a long run with libFuzzer (clang), or without it with
@@ -23,7 +23,7 @@ coverage="-C codegen-units=1 -C passes=sancov-module
     -C llvm-args=-sanitizer-coverage-trace-compares"
 short_run=30000
 
-[ -f "$lib" ] || { echo "fuzz: no $lib (rt staticlib station makes it)" >&2; exit 1; }
+[ -f "$lib" ] || { echo "fuzz: no $lib (tests/build.sh station makes it)" >&2; exit 1; }
 mkdir -p "$out"
 
 # The reference, with the options given, and the target over it.

@@ -1,12 +1,12 @@
 #!/bin/bash
 # Tests the example host program, examples/station.c, and docs/REFUSALS.md: run from the repository's root, after
-# `rt staticlib station`. STATION_LIB names another library to test.
+# `tests/build.sh station`. STATION_LIB names another library to test.
 set -euo pipefail
 
 lib=${STATION_LIB:-target/staticlib/libstation.a}
 station=target/station
 data=crates/samples/data
-[ -f "$lib" ] || { echo "tests: no $lib (rt staticlib station makes it)" >&2; exit 1; }
+[ -f "$lib" ] || { echo "tests: no $lib (tests/build.sh station makes it)" >&2; exit 1; }
 work=$(mktemp -d)
 trap 'rm -r "$work"' EXIT
 cases=0 numbers=

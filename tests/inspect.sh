@@ -1,11 +1,11 @@
 #!/bin/bash
-# Tests the program inspect: run from the repository's root, after `rt check` built target/bin/inspect and target/bin/digest.
+# Tests the program inspect: run from the repository's root, after `tests/build.sh` made target/bin/inspect and target/bin/digest.
 # A line of tests/inspect/cases.txt says what is expected, tests/inspect/NAME.out, its input (- is a closed one) and the arguments.
 # INSPECT names another program to test.
 set -euo pipefail
 
 inspect=${INSPECT:-target/bin/inspect}
-[ -x "$inspect" ] || { echo "tests: no $inspect (rt check makes it)" >&2; exit 1; }
+[ -x "$inspect" ] || { echo "tests: no $inspect (tests/build.sh makes it)" >&2; exit 1; }
 work=$(mktemp -d)
 trap 'rm -r "$work"' EXIT
 cases=0 failed=0

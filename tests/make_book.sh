@@ -1,10 +1,10 @@
 #!/bin/bash
-# Tests examples/make_book.c as a shop's operator would: run from the repository's root, after `rt staticlib station`.
+# Tests examples/make_book.c as a shop's operator would: run from the repository's root, after `tests/build.sh station`.
 # STATION_LIB names another library to test. What it makes is read by examples/station.c, and by rpm where it is installed.
 set -euo pipefail
 
 lib=${STATION_LIB:-target/staticlib/libstation.a}
-[ -f "$lib" ] || { echo "tests: no $lib (rt staticlib station makes it)" >&2; exit 1; }
+[ -f "$lib" ] || { echo "tests: no $lib (tests/build.sh station makes it)" >&2; exit 1; }
 work=$(mktemp -d)
 trap 'rm -r "$work"' EXIT
 make_book=$PWD/target/make_book

@@ -1,5 +1,5 @@
 #!/bin/sh
-# The host tests: run from the repository's root, after `rt staticlib station`.
+# The host tests: run from the repository's root, after `tests/build.sh station`.
 # STATION_LIB names another library to test.
 set -eu
 
@@ -9,7 +9,7 @@ rust="rustc --edition 2021 -O -D warnings"
 cc="gcc -O2 -Wall -Wextra -Werror -Iinclude"
 reading="--cfg reading" # empty for a library without station_read
 
-[ -f "$lib" ] || { echo "tests: no $lib (rt staticlib station makes it)" >&2; exit 1; }
+[ -f "$lib" ] || { echo "tests: no $lib (tests/build.sh station makes it)" >&2; exit 1; }
 mkdir -p "$out"
 
 echo "tests: the reference's own tests"

@@ -14,7 +14,7 @@ lib=${STATION_LIB:-target/staticlib/libstation.a}
 out=target/host/versions
 count=${1:-200000}
 
-[ -f "$lib" ] || { echo "versions: no $lib (rt staticlib station makes it)" >&2; exit 1; }
+[ -f "$lib" ] || { echo "versions: no $lib (tests/build.sh station makes it)" >&2; exit 1; }
 command -v python3 > /dev/null || { echo "versions: no Python 3 here, left out"; exit 0; }
 mkdir -p "$out"
 gcc -O2 -Wall -Wextra -Werror -Iinclude tests/versions/versions.c "$lib" -o "$out/versions"

@@ -33,7 +33,7 @@ import writer_faults
 
 OUT = pathlib.Path("target/host/faults")
 REFERENCE = pathlib.Path("tests/reference")
-# Beside links to tests/compare, tests/data and tests/vectors, which the samples include.
+# Beside copies of tests/compare, tests/data and tests/vectors, which the samples include.
 COPY = OUT / "tests/reference"
 RUST = ["rustc", "--edition", "2021", "-A", "warnings", "-C", f"incremental={OUT / 'incremental'}"]
 FAULTS = (package_faults.FAULTS + gap_faults.FAULTS + reading_faults.FAULTS + lot_faults.FAULTS
@@ -158,9 +158,11 @@ def main():
     begun = time.monotonic()
     COPY.mkdir(parents=True, exist_ok=True)
     for name in ["compare", "data", "vectors"]:
-        link = COPY.parent / name
-        if not link.exists():
-            link.symlink_to(pathlib.Path("tests", name).resolve())
+        copy = COPY.parent / name
+        if copy.is_symlink():
+            copy.unlink()
+        shutil.rmtree(copy, ignore_errors=True)
+        shutil.copytree(pathlib.Path("tests", name), copy)
     shutil.copy("tests/faults/standin.rs", COPY)
     shutil.copy(REFERENCE / "tables.txt", COPY)
     right = {path.name: path.read_text() for path in REFERENCE.glob("*.rs")}
