@@ -7,8 +7,8 @@ ghost use Rattle.std.specs.Prelude.{◌≤◌, length};
 
 use book::Dose;
 use format::Answer;
-use libc::STDOUT_FILENO;
 use places::FileOffset;
+use std::io;
 
 // One byte more than a package may have, so that a longer input is refused.
 const ROOM: usize = FileOffset::LIMIT + 1;
@@ -16,20 +16,21 @@ const ROOM: usize = FileOffset::LIMIT + 1;
 const NUMBERS: usize = Dose::NUMBERS as usize;
 
 // Writes a dose: `OXIDE MILLIGRAMS LOT`.
-fn put_dose(dose: &[u32]) {
+fn put_dose(rt: &impl Print, dose: &[u32]) -> io::Result<()> {
     let mut line = [0u8; 33];
     let n = text::lines::line(dose, &mut line);
-    io::write_all(STDOUT_FILENO, &line[..n]);
+    rt.write_all(&line[..n])
 }
 
 // Writes a line for each dose of a run of numbers, oxide, milligrams and lot.
-fn put_doses(numbers: &[u32]) {
+fn put_doses(rt: &impl Print, numbers: &[u32]) -> io::Result<()> {
     let mut i = 0;
     while i + NUMBERS <= numbers.len() {
         let next = i + NUMBERS;
-        put_dose(&numbers[i..next]);
+        put_dose(rt, &numbers[i..next])?;
         i = next;
     }
+    Ok(())
 }
 
 // The sum of the milligrams of a run of numbers, oxide, milligrams and lot.
@@ -47,54 +48,47 @@ fn total(numbers: &[u32]) -> u64
 }
 
 // Writes an accepted book's doses and their sum.
-fn put_book(numbers: &[u32])
+fn put_book(rt: &impl Print, numbers: &[u32]) -> io::Result<()>
     requires { length numbers.now ≤ 8192 }
 {
-    io::write_all(STDOUT_FILENO, b"edition 3\n");
-    put_doses(numbers);
-    io::write_all(STDOUT_FILENO, b"total ");
-    io::print_decimal(STDOUT_FILENO, total(numbers));
-    io::write_all(STDOUT_FILENO, b"\n");
+    rt.write_all(b"edition 3\n")?;
+    put_doses(rt, numbers)?;
+    let sum = total(numbers);
+    println!(rt; "total {sum}")
 }
 
 // Writes number and place of a refusal.
-fn put_refused(number: u32, place: u32) {
-    io::write_all(STDOUT_FILENO, b"refused ");
-    io::print_decimal(STDOUT_FILENO, number as u64);
-    io::write_all(STDOUT_FILENO, b" at ");
-    io::print_decimal(STDOUT_FILENO, place as u64);
-    io::write_all(STDOUT_FILENO, b"\n");
+fn put_refused(rt: &impl Print, number: u32, place: u32) -> io::Result<()> {
+    println!(rt; "refused {number} at {place}")
 }
 
 // Reads a package at edition 3, with room for any book's doses, and writes what it holds.
-fn put_package(pkg: &[u8]) {
+fn put_package(rt: &impl Print, pkg: &[u8]) -> io::Result<()> {
     let mut doses = [0u32; 8192];
     let answer = reading::read(3, pkg, &mut doses);
     match answer {
         Answer::Done(count) => {
             let used = NUMBERS * count as usize;
-            put_book(&doses[..used]);
+            put_book(rt, &doses[..used])
         }
-        Answer::Refused(number, place) => put_refused(number, place),
+        Answer::Refused(number, place) => put_refused(rt, number, place),
     }
 }
 
 // Reads a package from standard input, and writes what it holds.
-fn put_input() {
+fn put_input(rt: &(impl Input + Print)) -> io::Result<()> {
     let mut room = [0u8; ROOM];
-    let got = input::read(&mut room);
+    let got = input::read(&mut rt.reader(), &mut room);
     if got.failed {
-        io::write_all(STDOUT_FILENO, b"cannot read standard input\n");
-        return;
+        return rt.write_all(b"cannot read standard input\n");
     }
     let n = got.count;
-    put_package(&room[..n]);
+    put_package(rt, &room[..n])
 }
 
-fn main() {
-    if 1 < os::arg_count() {
-        io::write_all(STDOUT_FILENO, b"usage: doses < PACKAGE\n");
-        return;
+fn main(rt: HostRuntime) -> io::Result<()> {
+    if 1 < input::arg_count(&rt) {
+        return rt.write_all(b"usage: doses < PACKAGE\n");
     }
-    put_input();
+    put_input(&rt)
 }

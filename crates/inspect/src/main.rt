@@ -9,42 +9,44 @@ mod versions;
 
 use places::FileOffset;
 use request::Request;
+use std::env::Env;
+use std::io;
 
 // One byte more than a package may have, so that a longer input is refused.
 const ROOM: usize = FileOffset::LIMIT + 1;
 
 // Shows what is asked.
-fn answer(asked: Request, pkg: &[u8]) {
+fn answer(rt: &(impl Env + Print), asked: Request, pkg: &[u8]) -> io::Result<()> {
     match asked {
-        Request::Index(which) => show::put_index(pkg, which),
+        Request::Index(which) => show::put_index(rt, pkg, which),
         Request::Find(which, tag, ty) => show::put_found(
+            rt,
             lookups::find_answer(pkg, which, tag, ty),
             lookups::find(pkg, which, tag, ty),
         ),
         Request::Element(which, tag, ty, k) => show::put_found(
+            rt,
             elements::find_element_answer(pkg, which, tag, ty, k),
             elements::find_element(pkg, which, tag, ty, k),
         ),
-        Request::Requires => show::put_required(pkg),
-        Request::Meets => versions::put_meets(pkg),
-        Request::Compare => versions::put_compared(),
-        Request::TooLong => versions::put_too_long(),
-        Request::Unknown => show::put_usage(),
+        Request::Requires => show::put_required(rt, pkg),
+        Request::Meets => versions::put_meets(rt, pkg),
+        Request::Compare => versions::put_compared(rt),
+        Request::TooLong => versions::put_too_long(rt),
+        Request::Unknown => show::put_usage(rt),
     }
 }
 
-fn main() {
-    let asked = request::of_arguments();
+fn main(rt: HostRuntime) -> io::Result<()> {
+    let asked = request::of_arguments(&rt);
     if !request::of_package(asked) {
-        answer(asked, b"");
-        return;
+        return answer(&rt, asked, b"");
     }
     let mut room = [0u8; ROOM];
-    let got = input::read(&mut room);
+    let got = input::read(&mut rt.reader(), &mut room);
     if got.failed {
-        show::put_unread();
-        return;
+        return show::put_unread(&rt);
     }
     let n = got.count;
-    answer(asked, &room[..n]);
+    answer(&rt, asked, &room[..n])
 }

@@ -1,4 +1,5 @@
 // What the program's arguments ask for.
+use std::env::Env;
 use text::Parsed;
 
 // A request by its numbers: structure, tag, type and element. Names and version texts are read where they are used.
@@ -25,18 +26,17 @@ pub(crate) fn of_package(asked: Request) -> bool {
 }
 
 // The number that argument `i` is.
-fn number(i: usize) -> Parsed {
-    let mut word = io::buffer();
-    let n = os::arg(i, &mut word);
-    if os::errno() != 0 {
+fn number(rt: &impl Env, i: usize) -> Parsed {
+    let mut word = [0u8; 4096];
+    let Ok(n) = rt.arg(i, &mut word) else {
         return Parsed::Other;
-    }
+    };
     text::decimal(&word[..n])
 }
 
 // `index STRUCTURE`
-fn index() -> Request {
-    let first = number(2);
+fn index(rt: &impl Env) -> Request {
+    let first = number(rt, 2);
     let Parsed::Number(which) = first else {
         return Request::Unknown;
     };
@@ -44,16 +44,16 @@ fn index() -> Request {
 }
 
 // `find STRUCTURE TAG TYPE`
-fn find() -> Request {
-    let first = number(2);
+fn find(rt: &impl Env) -> Request {
+    let first = number(rt, 2);
     let Parsed::Number(which) = first else {
         return Request::Unknown;
     };
-    let second = number(3);
+    let second = number(rt, 3);
     let Parsed::Number(tag) = second else {
         return Request::Unknown;
     };
-    let third = number(4);
+    let third = number(rt, 4);
     let Parsed::Number(ty) = third else {
         return Request::Unknown;
     };
@@ -61,12 +61,12 @@ fn find() -> Request {
 }
 
 // `element STRUCTURE TAG TYPE NUMBER`
-fn element() -> Request {
-    let entry = find();
+fn element(rt: &impl Env) -> Request {
+    let entry = find(rt);
     let Request::Find(which, tag, ty) = entry else {
         return Request::Unknown;
     };
-    let last = number(5);
+    let last = number(rt, 5);
     let Parsed::Number(k) = last else {
         return Request::Unknown;
     };
@@ -74,16 +74,15 @@ fn element() -> Request {
 }
 
 // Whether argument `i` fits the buffer for a text.
-fn fits(i: usize) -> bool {
-    let mut word = io::large_buffer();
-    os::arg(i, &mut word);
-    os::errno() == 0
+fn fits(rt: &impl Env, i: usize) -> bool {
+    let mut word = [0u8; 65536];
+    rt.arg(i, &mut word).is_ok()
 }
 
 // A request of two texts, `compare LEFT RIGHT` or `meets NAME VERSION`.
-fn of_texts(asked: Request) -> Request {
-    if fits(2) {
-        if fits(3) {
+fn of_texts(rt: &impl Env, asked: Request) -> Request {
+    if fits(rt, 2) {
+        if fits(rt, 3) {
             return asked;
         }
     }
@@ -91,10 +90,10 @@ fn of_texts(asked: Request) -> Request {
 }
 
 // What a command asks for. `count` is the number of arguments, the program's name and the command among them.
-fn command(word: &[u8], count: usize) -> Request {
+fn command(rt: &impl Env, word: &[u8], count: usize) -> Request {
     if count == 3 {
         if be::same(word, b"index") {
-            return index();
+            return index(rt);
         }
         if be::same(word, b"requires") {
             return Request::Requires;
@@ -102,31 +101,30 @@ fn command(word: &[u8], count: usize) -> Request {
     }
     if count == 4 {
         if be::same(word, b"compare") {
-            return of_texts(Request::Compare);
+            return of_texts(rt, Request::Compare);
         }
         if be::same(word, b"meets") {
-            return of_texts(Request::Meets);
+            return of_texts(rt, Request::Meets);
         }
     }
     if count == 5 {
         if be::same(word, b"find") {
-            return find();
+            return find(rt);
         }
     }
     if count == 6 {
         if be::same(word, b"element") {
-            return element();
+            return element(rt);
         }
     }
     Request::Unknown
 }
 
 // The request of the arguments.
-pub(crate) fn of_arguments() -> Request {
-    let mut word = io::buffer();
-    let n = os::arg(1, &mut word);
-    if os::errno() != 0 {
+pub(crate) fn of_arguments(rt: &impl Env) -> Request {
+    let mut word = [0u8; 4096];
+    let Ok(n) = rt.arg(1, &mut word) else {
         return Request::Unknown;
-    }
-    command(&word[..n], os::arg_count())
+    };
+    command(rt, &word[..n], input::arg_count(rt))
 }

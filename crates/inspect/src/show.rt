@@ -2,120 +2,120 @@
 ghost use Rattle.std.specs.Prelude.{◌≤◌, length};
 
 use format::{Answer, IndexRecord};
-use libc::STDOUT_FILENO;
 use package::Opened;
+use std::env::Env;
+use std::io;
 use walk::Position;
 
 // How many bytes are spelled in hex at a time.
 const PART: usize = 2048;
 
-pub(crate) fn put(bytes: &[u8]) {
-    io::write_all(STDOUT_FILENO, bytes);
+pub(crate) fn put(rt: &impl Print, bytes: &[u8]) -> io::Result<()> {
+    rt.write_all(bytes)
 }
 
 // At most 5 numbers on a line.
-fn put_line(numbers: &[u32])
+fn put_line(rt: &impl Print, numbers: &[u32]) -> io::Result<()>
     requires { length numbers.now ≤ 5 }
 {
     let mut line = [0u8; 64];
     let n = text::line(numbers, &mut line);
-    put(&line[..n]);
+    put(rt, &line[..n])
 }
 
 // The line of a refusal.
-pub(crate) fn put_refusal(number: u32, place: u32) {
-    put(b"refused ");
-    io::print_decimal(STDOUT_FILENO, number as u64);
-    put(b" at ");
-    put_line(&[place]);
+pub(crate) fn put_refusal(rt: &impl Print, number: u32, place: u32) -> io::Result<()> {
+    print!(rt; "refused {number} at ")?;
+    put_line(rt, &[place])
 }
 
 // At most 2,048 bytes in hex.
-fn put_part(part: &[u8])
+fn put_part(rt: &impl Print, part: &[u8]) -> io::Result<()>
     requires { length part.now ≤ 2048 }
 {
-    let mut spelled = io::buffer();
+    let mut spelled = [0u8; 4096];
     let n = text::hex(part, &mut spelled);
-    put(&spelled[..n]);
+    put(rt, &spelled[..n])
 }
 
 // Bytes in hex on a line.
-fn put_hex(bytes: &[u8]) {
+fn put_hex(rt: &impl Print, bytes: &[u8]) -> io::Result<()> {
     let len = bytes.len();
     let mut at = 0;
     while PART < len - at {
         let end = at + PART;
-        put_part(&bytes[at..end]);
+        put_part(rt, &bytes[at..end])?;
         at = end;
     }
-    put_part(&bytes[at..]);
-    put(b"\n");
+    put_part(rt, &bytes[at..])?;
+    put(rt, b"\n")
 }
 
 // A look-up: `0 PLACE` and the bytes, or the refusal.
-pub(crate) fn put_found(answer: Answer, bytes: &[u8]) {
+pub(crate) fn put_found(rt: &impl Print, answer: Answer, bytes: &[u8]) -> io::Result<()> {
     match answer {
         Answer::Done(place) => {
-            put_line(&[0, place]);
-            put_hex(bytes);
+            put_line(rt, &[0, place])?;
+            put_hex(rt, bytes)
         }
-        Answer::Refused(number, place) => put_refusal(number, place),
+        Answer::Refused(number, place) => put_refusal(rt, number, place),
     }
 }
 
 // The line of an index record.
-fn put_record(place: u32, found: IndexRecord) {
-    put_line(&[place, found.tag, found.ty, found.offset.get(), found.count]);
+fn put_record(rt: &impl Print, place: u32, found: IndexRecord) -> io::Result<()> {
+    put_line(
+        rt,
+        &[place, found.tag, found.ty, found.offset.get(), found.count],
+    )
 }
 
 // What ends a walk: the end of the index, of which nothing is shown, or a refusal.
-fn put_end(answer: Answer) {
+fn put_end(rt: &impl Print, answer: Answer) -> io::Result<()> {
     if let Answer::Refused(number, place) = answer {
         if number != 26 {
-            put_refusal(number, place);
+            return put_refusal(rt, number, place);
         }
     }
+    Ok(())
 }
 
 // The records of a structure.
-pub(crate) fn put_index(pkg: &[u8], which: u32) {
+pub(crate) fn put_index(rt: &impl Print, pkg: &[u8], which: u32) -> io::Result<()> {
     let mut position = Position::first();
     loop {
         let step = position.step(pkg, which);
         let answer = step.answer;
         let Answer::Done(place) = answer else {
-            put_end(answer);
-            return;
+            return put_end(rt, answer);
         };
-        put_record(place, step.found);
+        put_record(rt, place, step.found)?;
         position = step.next;
     }
 }
 
 // The version required for the name that is argument 2. A name that does not fit the buffer is longer than any string of
 // a package.
-pub(crate) fn put_required(pkg: &[u8]) {
+pub(crate) fn put_required(rt: &(impl Env + Print), pkg: &[u8]) -> io::Result<()> {
     let opened = package::open(pkg);
     if let Opened::Unsound(number, place) = opened {
-        put_refusal(number, place);
-        return;
+        return put_refusal(rt, number, place);
     }
-    let mut name = io::large_buffer();
-    let n = os::arg(2, &mut name);
-    if os::errno() != 0 {
-        put(b"\n");
-        return;
-    }
-    put_hex(required::required_version(pkg, &name[..n]));
+    let mut name = [0u8; 65536];
+    let Ok(n) = rt.arg(2, &mut name) else {
+        return put(rt, b"\n");
+    };
+    put_hex(rt, required::required_version(pkg, &name[..n]))
 }
 
 // Standard input that could not be read.
-pub(crate) fn put_unread() {
-    put(b"cannot read standard input\n");
+pub(crate) fn put_unread(rt: &impl Print) -> io::Result<()> {
+    put(rt, b"cannot read standard input\n")
 }
 
-pub(crate) fn put_usage() {
+pub(crate) fn put_usage(rt: &impl Print) -> io::Result<()> {
     put(
+        rt,
         b"usage: inspect index STRUCTURE
        inspect find STRUCTURE TAG TYPE
        inspect element STRUCTURE TAG TYPE NUMBER
@@ -125,5 +125,5 @@ pub(crate) fn put_usage() {
 It reads a package from standard input, but for compare, which reads nothing.
 STRUCTURE is 0 for the signature, else the header.
 ",
-    );
+    )
 }

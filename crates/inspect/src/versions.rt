@@ -1,49 +1,63 @@
 // What the program writes of version texts. The texts are arguments 2 and 3, which the request says fit their buffers.
+ghost use Rattle.std.specs.Prelude.{◌≤◌, length};
+
 use crate::show::{put, put_refusal};
 use format::Answer;
 use runs::Order;
+use std::env::Env;
+use std::io;
 
-fn put_order(order: Order) {
+fn put_order(rt: &impl Print, order: Order) -> io::Result<()> {
     match order {
-        Order::Older => put(b"older\n"),
-        Order::Same => put(b"same\n"),
-        Order::Newer => put(b"newer\n"),
+        Order::Older => put(rt, b"older\n"),
+        Order::Same => put(rt, b"same\n"),
+        Order::Newer => put(rt, b"newer\n"),
+    }
+}
+
+// Puts argument `i` to the front of `room`, and answers how many bytes it has: none where it does not fit.
+fn text_of(rt: &impl Env, i: usize, room: &mut [u8]) -> usize
+    ensures { result ≤ length room.new }
+{
+    match rt.arg(i, room) {
+        Ok(n) => n,
+        Err(_) => 0,
     }
 }
 
 // How the left text stands to the right one.
-pub(crate) fn put_compared() {
-    let mut left = io::large_buffer();
-    let n = os::arg(2, &mut left);
-    let mut right = io::large_buffer();
-    let m = os::arg(3, &mut right);
-    put_order(version::compare(&left[..n], &right[..m]));
+pub(crate) fn put_compared(rt: &(impl Env + Print)) -> io::Result<()> {
+    let mut left = [0u8; 65536];
+    let n = text_of(rt, 2, &mut left);
+    let mut right = [0u8; 65536];
+    let m = text_of(rt, 3, &mut right);
+    put_order(rt, version::compare(&left[..n], &right[..m]))
 }
 
 // Yes where the place is 1, else no; or the refusal.
-fn put_met(answer: Answer) {
+fn put_met(rt: &impl Print, answer: Answer) -> io::Result<()> {
     match answer {
         Answer::Done(place) => {
             if place == 1 {
-                put(b"yes\n");
+                put(rt, b"yes\n")
             } else {
-                put(b"no\n");
+                put(rt, b"no\n")
             }
         }
-        Answer::Refused(number, place) => put_refusal(number, place),
+        Answer::Refused(number, place) => put_refusal(rt, number, place),
     }
 }
 
 // Whether a version text meets what a package requires for a name.
-pub(crate) fn put_meets(pkg: &[u8]) {
-    let mut name = io::large_buffer();
-    let n = os::arg(2, &mut name);
-    let mut version = io::large_buffer();
-    let m = os::arg(3, &mut version);
-    put_met(meets::meets(pkg, &name[..n], &version[..m]));
+pub(crate) fn put_meets(rt: &(impl Env + Print), pkg: &[u8]) -> io::Result<()> {
+    let mut name = [0u8; 65536];
+    let n = text_of(rt, 2, &mut name);
+    let mut version = [0u8; 65536];
+    let m = text_of(rt, 3, &mut version);
+    put_met(rt, meets::meets(pkg, &name[..n], &version[..m]))
 }
 
 // A text that does not fit its buffer.
-pub(crate) fn put_too_long() {
-    put(b"too long for this program\n");
+pub(crate) fn put_too_long(rt: &impl Print) -> io::Result<()> {
+    put(rt, b"too long for this program\n")
 }

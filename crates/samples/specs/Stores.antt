@@ -1,5 +1,5 @@
 -- Document 01, "Bench samples", P store of 8: one index record over a store of 8 bytes, and the verdict of checks 5 to 13.
-use Rattle.std.specs.Prelude.{ℕ, ◌+◌, List, [], ◌∷◌, ◌++◌, Bool, true, false, ◌&&◌, length, eqb}
+use Rattle.std.specs.Prelude.{ℕ, List, [], ◌∷◌, ◌++◌, Bool, true, false, ◌&&◌, length, eqb}
 use Rattle.format.specs.declared.section.Structure.TheVariants.{Signature, Header}
 use Rattle.format.specs.declared.verdict.Verdict.{Verdict}
 use Rattle.format.specs.declared.verdict.Verdict.TheVariants.{Pass, Fail}
