@@ -23,17 +23,18 @@ sed -n '/^<!-- catalogue -->$/,/^<!-- end -->$/p' "$page" | sed '1,3d;$d' | tr '
 [ "$(wc -l < "$work/page")" = 82 ] || fail "$page: not 82 lines"
 
 # the program's, in its order, without names
-awk -F '[, ]+' '
+awk -F '[^A-Za-z0-9_]+' '
     BEGIN {
         split("char int8 int16 int32 - string bin string_array translated_string", types, " ")
-        split("optional required required_from_edition_2_on", statuses, " ")
     }
-    /^    [0-9]+,/ {
-        for (i = 2; $i ~ /^[0-9]+$/; i++) {
-            n[numbers++ % 4] = $i
-            if (numbers % 4 == 0)
-                print ++lines <= 11 ? "signature" : "header", n[0], n[1] "_" types[n[1]], n[2] == 0 ? "any" : n[2], statuses[n[3] + 1]
-        }
+    /^const / { number[$2] = $4 }
+    /^    line!/ {
+        count = $5 == "None" ? "any" : $6
+        at = $5 == "None" ? 6 : 7
+        status = tolower($at)
+        if (status == "requiredfrom")
+            status = "required_from_edition_" $(at + 1) "_on"
+        print ++lines <= 11 ? "signature" : "header", $3, number[$4] "_" types[number[$4]], count, status
     }' crates/catalogue/src/numbers.rt > "$work/program"
 cut -d ' ' -f 1-5 "$work/page" | diff - "$work/program" || fail "$page: not the catalogue of crates/catalogue"
 

@@ -3,9 +3,10 @@
 use Prim.Native.Nat.{ℕ, zero, suc, ◌+◌, ◌-◌, ◌≤◌, ◌<◌}
 use mathlib.Core.Path.{◌≡◌, refl, sym, ap, ◌∙◌}
 use mathlib.Core.Bool.{Bool, true, false, cond}
-use lib.Dec.{eqb}
+use lib.Dec.{eqb, leb}
+use Rattle.std.specs.Prelude.{max}
 use native.Mathlib.Omega.{arith}
-use borrow.Author.Tests.{eq-eqb, ne_eqb}
+use borrow.Author.Tests.{eq-eqb, ne_eqb, leb-true, leb-false}
 use Rattle.among.specs.Among.{first_from}
 
 module _ (test : ℕ → Bool) where
@@ -74,6 +75,21 @@ module _ (test : ℕ → Bool) where
   pub stops : (n i : ℕ) {first : ℕ} → first ≡ first_from test (n - i) i → n ≤ i → i ≡ first
   unfolding first_from
   stops n i inv h = let k : n - i ≡ 0 = omega arith in sym (inv ∙ ap (λ (m : ℕ). first_from test m i) k)
+
+  -- a search from number i0 on that ends at number i, at n or behind
+  pub past : (n i0 i : ℕ) → first_from test (n - i0) i0 ≡ first_from test (n - i) i → n ≤ i → (i0 ≤ n → i ≤ n)
+      → max i0 n ≡ first_from test (n - i0) i0
+  past n i0 i inv h l = go (leb i0 n) refl
+    where
+      go : (b : Bool) → leb i0 n ≡ b → max i0 n ≡ first_from test (n - i0) i0
+      go true t =
+          let a = leb-true i0 n t in
+          let e : max i0 n ≡ i = let m = l a in omega arith in
+          e ∙ stops n i inv h
+      go false t =
+          let a = leb-false i0 n t in
+          let e : max i0 n ≡ i0 = omega arith in
+          e ∙ stops n i0 refl (omega arith)
 
   pub spent : (n i : ℕ) {first : ℕ} → first ≡ first_from test (n - i) i → i ≤ n → n ≤ i → n ≡ first
   spent n i inv l h = let e : n ≡ i = omega arith in e ∙ stops n i inv h

@@ -76,9 +76,7 @@ fn among_by_4(s: &[u8], n: u32, tag: u32) -> bool
 fn among_by_1(s: &[u8], n: u32, tag: u32) -> bool
     ensures { result ≡ tag_among s.now n tag }
 {
-    let mut k = n;
-    while 0 < k {
-        k -= 1;
+    for k in (0..n).rev() {
         if be::be32(s, IndexRecord::SIZE * k as usize) == tag {
             return true;
         }
@@ -103,14 +101,12 @@ pub fn tag_among(s: &[u8], n: u32, tag: u32) -> bool
 fn first_by_1(s: &[u8], n: u32, from: u32, tag: u32) -> u32
     ensures { result ≡ first_from (has_tag s.now tag) (n - from) from }
 {
-    let mut i = from;
-    while i < n {
+    for i in from..n {
         if be::be32(s, IndexRecord::SIZE * i as usize) == tag {
             return i;
         }
-        i += 1;
     }
-    i
+    from.max(n)
 }
 
 // The same by fours, in a slice that has the first `n` records.

@@ -1,10 +1,10 @@
--- Bytes and parts at the end of a list: be16_past, be32_past, part_past, part_tail, part_inside. Parts: part_join,
--- length_part. A number behind a place, and the first of a part: be32_drop, be32_part.
-use Prim.Native.Nat.{ℕ, ◌+◌, ◌-◌, ◌≤◌, ◌<◌}
-use mathlib.Core.Path.{◌≡◌, sym, ◌∙◌}
-use mathlib.Core.List.{List, [], ◌++◌}
-use lib.ListN.{length, get_or, take, drop, length-take, length-drop, get_or-eq_default, drop_of_length-le}
-use lib.Seq.{take-nil, take_all, take-add, drop-drop, get_or-take, get_or-drop}
+-- Numbers behind the end of a list: be16_past, be32_past. Parts: part_join, length_part. A number behind a place, and the
+-- first of a part: be32_drop, be32_part.
+use Prim.Native.Nat.{ℕ, ◌+◌, ◌≤◌, ◌<◌}
+use mathlib.Core.Path.{◌≡◌, ◌∙◌}
+use mathlib.Core.List.{List, ◌++◌}
+use lib.ListN.{length, get_or, take, drop, length-take, length-drop, get_or-eq_default}
+use lib.Seq.{take-add, drop-drop, get_or-take, get_or-drop}
 use native.Mathlib.Omega.{arith}
 use native.Mathlib.Nat.{add_assoc}
 use Rattle.be.specs.Numbers.{be16_at, be32_at}
@@ -19,18 +19,6 @@ be16_past s at h = rw (get_or-eq_default s 0 h, get_d_past s at 1 h)
 pub be32_past : (s : List ℕ) (at : ℕ) → length s ≤ at → 0 ≡ be32_at s at
 unfolding be32_at
 be32_past s at h = rw (get_or-eq_default s 0 h, get_d_past s at 1 h, get_d_past s at 2 h, get_d_past s at 3 h)
-
-pub part_past : (s : List ℕ) (from extent : ℕ) → length s ≤ from → [] ≡ take extent (drop from s)
-part_past s from extent h = rw (drop_of_length-le s h) (sym (take-nil extent))
-
-pub part_tail : (s : List ℕ) (from extent : ℕ) → length s - from < extent
-    → take (length s - from) (drop from s) ≡ take extent (drop from s)
-part_tail s from extent h =
-    let e = length-drop from s in
-    take_all (length s - from) (drop from s) (omega arith) ∙ sym (take_all extent (drop from s) (omega arith))
-
-pub part_inside : (s : List ℕ) (from extent : ℕ) → take (from + extent - from) (drop from s) ≡ take extent (drop from s)
-part_inside s from extent = let e : from + extent - from ≡ extent = omega arith in rw e
 
 -- a part and the part behind it
 pub part_join : (s : List ℕ) (from a b : ℕ)

@@ -1,6 +1,5 @@
--- Remarks without a body: whether a kind is one (bare_not, bare_by), the place behind a row of them for each way
--- through the loop (on, stop, out), that passing them changes neither the checks nor the doses (turn, skipped), and that
--- it goes on (behind).
+-- Remarks without a body: the place behind a row of them for each way through the loop (on, stop, out), that passing
+-- them changes neither the checks nor the doses (row_turn, row_skipped), and that it goes on (behind).
 use Prim.Native.Nat.{ℕ, zero, suc, ◌+◌, ◌-◌, ◌≤◌, ◌<◌}
 use mathlib.Core.Path.{◌≡◌, refl, sym, ◌∙◌}
 use mathlib.Core.List.{List}
@@ -8,20 +7,13 @@ use mathlib.Core.Bool.{Bool, true, false, cond, not}
 use lib.ListN.{length}
 use lib.Dec.{eqb}
 use native.Mathlib.Omega.{arith}
-use borrow.Author.Tests.{eqb-true, not-true, not-false}
-use Rattle.format.specs.declared.verdict.Verdict.{Verdict}
+use borrow.Author.Tests.{le-leb, eqb-true, not-true, not-false}
 use Rattle.book.specs.declared.dose.Dose.{Dose}
 use Rattle.book.specs.Kinds.{is_weighed, body_size, is_bare, is_known}
-use Rattle.book.specs.Book.{kind_at, record_end, places_from, past_bare, records_check}
+use Rattle.book.specs.Book.{kind_at, record_end, places_from, past_bare, record_check, records_check}
 use Rattle.book.specs.Doses.{doses_of}
-use Rattle.book.proofs.RecordsLaws.{remark, remark_turn}
-
-pub bare_not : (kind : ℕ) {w : Bool} → w ≡ is_weighed kind → w ≡ true → false ≡ is_bare kind
-bare_not kind h t = rw (sym h ∙ t)
-
-pub bare_by : (kind : ℕ) {w : Bool} {size : ℕ} → w ≡ is_weighed kind → w ≡ false → size ≡ body_size kind
-    → eqb size 0 ≡ is_bare kind
-bare_by kind h t e = rw (e, sym h ∙ t)
+use Rattle.book.proofs.RecordsLaws.{remark, turn}
+use Rattle.format.specs.Verdicts.{check, Verdict}
 
 bare_parts : (kind : ℕ) → is_bare kind ≡ true → (is_weighed kind ≡ false) × (body_size kind ≡ 0)
 bare_parts kind h = go (is_weighed kind) refl h
@@ -54,9 +46,12 @@ module _ (b : List ℕ) (i : ℕ) {v : ℕ} (inv : v ≡ past_bare b (length b -
     pub stop : not r ≡ true → i ≡ v
     stop k = sym (inv ∙ unrolled b i l ∙ rw (sym h ∙ not-true r k))
 
-  pub out : length b ≤ i → i ≡ v
+  pub out : length b ≤ i → i ≤ length b → length b ≡ v
   unfolding past_bare
-  out l = let k : length b - i ≡ 0 = omega arith in sym (inv ∙ rw k)
+  out l m =
+      let k : length b - i ≡ 0 = omega arith in
+      let e : length b ≡ i = omega arith in
+      e ∙ sym (inv ∙ rw k)
 
 -- what one remark without a body does not change, a row of them does not
 module _ {A : Type 0} (b : List ℕ) (f : List ℕ → A)
@@ -86,25 +81,26 @@ module _ (b : List ℕ) (at : ℕ) (l : at < length b) (t : is_bare (kind_at b a
 
   one_check : (edition : ℕ) → records_check (is_known edition) b (places_from b (length b - at) at)
       ≡ records_check (is_known edition) b (places_from b (length b - (at + 1)) (at + 1))
+  unfolding record_check check
   one_check edition =
-      remark_turn edition b at l bare_end {w = false} (sym (bare_parts (kind_at b at) t).0) refl refl (omega arith)
+      turn (is_known edition) b at l refl bare_end (rw ((bare_parts (kind_at b at) t).0, le-leb (record_end b at) (length b) (omega (arith, bare_end))))
 
   one_doses : doses_of b (places_from b (length b - at) at) ≡ doses_of b (places_from b (length b - (at + 1)) (at + 1))
   one_doses = remark b at l bare_end {w = false} (sym (bare_parts (kind_at b at) t).0) refl
 
 -- in the shape of what is known in a turn: r says whether the record is such a remark, end is the place behind the row
-pub turn : (edition : ℕ) (b : List ℕ) (at : ℕ) → at < length b → {r : Bool} → r ≡ is_bare (kind_at b at) → r ≡ true
+pub row_turn : (edition : ℕ) (b : List ℕ) (at : ℕ) → at < length b → {r : Bool} → r ≡ is_bare (kind_at b at) → r ≡ true
     → {end : ℕ} → end ≡ past_bare b (length b - (at + 1)) (at + 1)
     → {x : Verdict} → x ≡ records_check (is_known edition) b (places_from b (length b - at) at)
     → x ≡ records_check (is_known edition) b (places_from b (length b - end) end)
-turn edition b at l h t e inv =
+row_turn edition b at l h t e inv =
     inv ∙ same b (records_check (is_known edition) b) (λ k m n. one_check b k m n edition) at l h t e
 
-pub skipped : (f : List Dose → ℕ) (b : List ℕ) (at : ℕ) → at < length b → {r : Bool} → r ≡ is_bare (kind_at b at)
+pub row_skipped : (f : List Dose → ℕ) (b : List ℕ) (at : ℕ) → at < length b → {r : Bool} → r ≡ is_bare (kind_at b at)
     → r ≡ true → {end : ℕ} → end ≡ past_bare b (length b - (at + 1)) (at + 1)
     → (sofar : ℕ) {n : ℕ} → n ≡ sofar + f (doses_of b (places_from b (length b - at) at))
     → n ≡ sofar + f (doses_of b (places_from b (length b - end) end))
-skipped f b at l h t e sofar inv = inv ∙ rw (same b (doses_of b) (one_doses b) at l h t e)
+row_skipped f b at l h t e sofar inv = inv ∙ rw (same b (doses_of b) (one_doses b) at l h t e)
 
 no_earlier : (b : List ℕ) (n at : ℕ) → at ≤ past_bare b n at
 no_earlier b zero at = omega (arith, none b at)

@@ -1,30 +1,16 @@
--- What is asked of weighed records only: remark, asked, asked_dose. Known kinds and their bodies: held, held_if,
--- each_kind, six, lot_of. For callers, kinds_kept: a later edition has the bodies of an earlier one.
+-- Known kinds and their bodies: held, held_if, each_kind, six, lot_of. For callers, kinds_kept: a later edition has the
+-- bodies of an earlier one.
 use Prim.Native.Nat.{ℕ, ◌+◌, ◌≤◌}
-use mathlib.Core.Path.{◌≡◌, refl, ap, ◌∙◌}
+use mathlib.Core.Path.{◌≡◌, refl}
 use mathlib.Core.List.{List, [], ◌∷◌}
-use mathlib.Core.Bool.{Bool, true, false, cond, not}
+use mathlib.Core.Bool.{Bool, true, false, cond}
 use lib.Dec.{eqb, leb}
 use native.Mathlib.Omega.{arith}
 use borrow.Author.Tests.{le-leb, leb-true, eqb-true}
-use Rattle.format.proofs.VerdictLaws.{told, untold}
-use Rattle.book.specs.declared.dose.Dose.{Dose}
 use Rattle.be.specs.Numbers.{be32_at}
 use Rattle.book.specs.Kinds.{is_weighed, body_size, Part, Oxide, Milligrams, Lot, Body, Unknown, Holds, is_held}
 use Rattle.book.specs.Kinds.{KindRow, kind_table, kinds_in, kinds_of, is_known, last_edition}
-use Rattle.book.specs.Book.{kind_at, lot_from, lot_in, dose_at, dose_lawful, weighed_right}
-
--- r is the answer of the test
-module _ (kind : ℕ) (rule : Bool) {r : Bool} (h : r ≡ is_weighed kind) where
-  pub remark : not r ≡ true → true ≡ cond (is_weighed kind) rule true
-  remark k = rw (untold h k)
-
-  pub asked : {v : Bool} → not r ≡ false → v ≡ rule → v ≡ cond (is_weighed kind) rule true
-  asked k e = rw (told h k) e
-
-pub asked_dose : (b : List ℕ) (at : ℕ) {dose : Dose} {r v : Bool} → r ≡ is_weighed (kind_at b at) → not r ≡ false
-    → dose ≡ dose_at b at → v ≡ dose_lawful dose → v ≡ weighed_right b at
-asked_dose b at h k e f = asked (kind_at b at) (dose_lawful (dose_at b at)) h k (f ∙ ap dose_lawful e)
+use Rattle.book.specs.Book.{lot_from, lot_in}
 
 -- a kind that is known is known by its body
 pub held : (body : Body) → is_held body ≡ true → (parts : List Part) × (body ≡ Holds parts)

@@ -5,7 +5,6 @@ use mathlib.Core.List.{List, [], ◌∷◌}
 use mathlib.Core.Bool.{Bool, true, false, cond}
 use lib.ListN.{length}
 use native.Mathlib.Omega.{arith}
-use Rattle.format.specs.declared.verdict.Verdict.TheVariants.{Pass}
 use Rattle.book.specs.declared.dose.Dose.{Dose}
 use Rattle.book.specs.Kinds.{is_weighed, Part, Body, Kinds, knows, kind_table}
 use Rattle.book.specs.Book.{kind_at, places, lot_in, dose_by, records_check}
@@ -13,6 +12,7 @@ use Rattle.book.specs.Doses.{doses_by, sum_of}
 use Rattle.book.specs.KindTheorems.{parts_size, BodiesSized, AnyKinds, KeepsKinds, KeptKinds}
 use Rattle.book.proofs.KindLaws.{held, each_kind}
 use Rattle.book.proofs.PassLaws.{record_pass, pass_first, pass_records}
+use Rattle.format.specs.Verdicts.{pass}
 
 pub bodies_sized : BodiesSized
 unfolding kind_table parts_size
@@ -53,7 +53,7 @@ module _ (earlier later : Kinds) (keeps : KeepsKinds earlier later) (b : List �
             lot = record { 0 = lot_in body b (at + 1) };
           }
 
-  same_doses : (ps : List ℕ) → records_check (knows earlier) b ps ≡ Pass → doses_by earlier b ps ≡ doses_by later b ps
+  same_doses : (ps : List ℕ) → records_check (knows earlier) b ps ≡ pass → doses_by earlier b ps ≡ doses_by later b ps
   unfolding doses_by
   same_doses [] h = refl
   same_doses (at ∷ rest) h =

@@ -2,8 +2,8 @@ pub mod PlaceLaws
 pub mod KindLaws
 pub mod DoseLaws
 pub mod RecordsLaws
+pub mod WeighingLaws
 pub mod BareLaws
-pub mod WeighLaws
 pub mod PassLaws
 pub mod RowLaws
 pub mod RowTheorems

@@ -13,7 +13,7 @@ use Rattle.book.specs.Book.{kind_at, record_end, places_from}
 
 -- size is the body's, as read
 pub end_of : (b : List ℕ) (at : ℕ) {size : ℕ} → size ≡ body_size (kind_at b at) → at + 1 + size ≡ record_end b at
-end_of b at e = rw e
+end_of b at e = omega arith
 
 module _ (b : List ℕ) where
   pub none : (n at : ℕ) → length b ≤ at → places_from b n at ≡ []

@@ -3,21 +3,18 @@
 use Prim.Native.Nat.{ℕ, ◌+◌, ◌-◌, ◌≤◌, ◌<◌}
 use mathlib.Core.Path.{◌≡◌, refl, sym, ap, ◌∙◌}
 use mathlib.Core.List.{List, [], ◌∷◌}
-use mathlib.Core.Bool.{Bool, true, false, cond, not}
-use borrow.Author.Tests.{le-leb, lt-leb, not-true, not-false}
+use mathlib.Core.Bool.{Bool, true, false, cond}
 use lib.ListN.{length}
 use native.Mathlib.Omega.{arith}
-use Rattle.format.specs.declared.verdict.Verdict.{Verdict}
-use Rattle.format.specs.declared.verdict.Verdict.TheVariants.{Pass, Fail}
-use Rattle.format.specs.Verdicts.{both, check}
+use Rattle.format.specs.Verdicts.{both, Verdict, pass}
+use Rattle.format.specs.declared.verdict.Refusal.{Refusal}
 use Rattle.format.proofs.VerdictLaws.{both_pass, both_fail}
 use Rattle.book.specs.declared.dose.Dose.{Dose}
-use Rattle.book.specs.declared.Weighed.TheVariants.{Doses, Unsound}
-use Rattle.book.specs.Kinds.{is_weighed, is_known}
-use Rattle.book.specs.Book.{kind_at, record_end, places_from, dose_at, body_fits, dose_lawful, record_check, records_check}
-use Rattle.book.specs.Doses.{doses_by, doses_of, sum_of, weighed_as}
+use Rattle.book.specs.Kinds.{is_weighed}
+use Rattle.book.specs.Book.{kind_at, record_end, places_from, dose_at, record_check, records_check}
+use Rattle.book.specs.Doses.{dose_of, doses_by, doses_of, sum_of, weighed_as}
 use Rattle.book.proofs.PlaceLaws.{first, none}
-use Rattle.book.proofs.KindLaws.{six}
+use Rattle.std.specs.Prelude.{Option, Some, None, Ok, Err}
 
 doses_step : (b rest : List ℕ) (at : ℕ)
     → doses_of b (at ∷ rest) ≡ cond (is_weighed (kind_at b at)) (dose_at b at ∷ doses_of b rest) (doses_of b rest)
@@ -33,7 +30,7 @@ pub check_step : (known : ℕ → Bool) (b rest : List ℕ) (at : ℕ)
 unfolding records_check
 check_step known b rest at = refl
 
-pub check_nil : (known : ℕ → Bool) (b : List ℕ) → records_check known b [] ≡ Pass
+pub check_nil : (known : ℕ → Bool) (b : List ℕ) → records_check known b [] ≡ pass
 unfolding records_check
 check_nil known b = refl
 
@@ -53,41 +50,61 @@ module _ (b : List ℕ) (at : ℕ) (l : at < length b) {end : ℕ} (e : end ≡ 
 pub no_doses : (b : List ℕ) (at : ℕ) → length b ≤ at → doses_of b (places_from b (length b - at) at) ≡ []
 no_doses b at h = ap (doses_of b) (none b _ at h) ∙ doses_nil b
 
--- v is what the checks of the record found, x what the checks of all came to before
-module _ (known : ℕ → Bool) (b : List ℕ) (at : ℕ) (l : at < length b) {v x : Verdict} (h : v ≡ record_check known b at)
+-- x is what the checks of all came to before the record at a place
+module _ (known : ℕ → Bool) (b : List ℕ) (at : ℕ) (l : at < length b) {x : Verdict}
     (inv : x ≡ records_check known b (places_from b (length b - at) at)) where
-  here : {end : ℕ} → end ≡ record_end b at → x ≡ both v (records_check known b (places_from b (length b - end) end))
-  here e = inv ∙ ap (records_check known b) (walk b at l e) ∙ check_step known b _ at ∙ rw h
+  here : {end : ℕ} → end ≡ record_end b at
+      → x ≡ both (record_check known b at) (records_check known b (places_from b (length b - end) end))
+  here e = inv ∙ ap (records_check known b) (walk b at l e) ∙ check_step known b _ at
 
-  pub turn : {end : ℕ} → end ≡ record_end b at → v ≡ Pass → x ≡ records_check known b (places_from b (length b - end) end)
+  pub turn : {end : ℕ} → end ≡ record_end b at → record_check known b at ≡ pass
+      → x ≡ records_check known b (places_from b (length b - end) end)
   turn e k = here e ∙ both_pass k
 
-  pub ends : {number place : ℕ} (count sum : ℕ) → v ≡ Fail number place → Unsound number place ≡ weighed_as x count sum
+  pub ends : (count sum : ℕ) {refused : Refusal} → record_check known b at ≡ Err refused → Err refused ≡ weighed_as x count sum
   ends count sum k = rw (here refl ∙ both_fail _ k)
 
--- w says whether the record is weighed; what was counted or summed so far, with what is left, is n
-module _ (b : List ℕ) (at : ℕ) (l : at < length b) {end : ℕ} (e : end ≡ record_end b at) {w : Bool}
-    (h : w ≡ is_weighed (kind_at b at)) (sofar : ℕ) {n : ℕ} where
-  pub counted : n ≡ sofar + length (doses_of b (places_from b (length b - at) at)) → w ≡ true
+-- whether a record is weighed, by its dose
+has_dose : (b : List ℕ) (at : ℕ) {dose : Dose} → dose_of b at ≡ Some dose → (is_weighed (kind_at b at) ≡ true) × (dose ≡ dose_at b at)
+has_dose b at {dose} h = go (is_weighed (kind_at b at)) refl h
+  where
+    go : (w : Bool) → is_weighed (kind_at b at) ≡ w → cond w (Some (dose_at b at)) None ≡ Some dose
+        → (is_weighed (kind_at b at) ≡ true) × (dose ≡ dose_at b at)
+    go true e k = (e, cc)
+    go false e k = let z : ◌≡◌ {A = ℕ} 0 1 = cc in absurd (omega arith)
+
+no_dose : (b : List ℕ) (at : ℕ) → dose_of b at ≡ None → is_weighed (kind_at b at) ≡ false
+no_dose b at h = go (is_weighed (kind_at b at)) refl h
+  where
+    go : (w : Bool) → is_weighed (kind_at b at) ≡ w → cond w (Some (dose_at b at)) None ≡ None → is_weighed (kind_at b at) ≡ false
+    go true e k = let z : ◌≡◌ {A = ℕ} 0 1 = cc in absurd (omega arith)
+    go false e k = e
+
+-- o is the record's dose, where it has one; what was counted or summed so far, with what is left, is n
+module _ (b : List ℕ) (at : ℕ) (l : at < length b) {end : ℕ} (e : end ≡ record_end b at) {o : Option Dose} (h : o ≡ dose_of b at)
+    (sofar : ℕ) {n : ℕ} where
+  pub counted : {dose : Dose} → n ≡ sofar + length (doses_of b (places_from b (length b - at) at)) → o ≡ Some dose
       → n ≡ sofar + 1 + length (doses_of b (places_from b (length b - end) end))
-  counted inv k = let d = ap length (weighed b at l e h k refl) in omega arith
+  counted inv k = let d = ap length (weighed b at l e refl (has_dose b at (sym h ∙ k)).0 refl) in omega arith
 
-  pub summed : {dose : Dose} → n ≡ sofar + sum_of (doses_of b (places_from b (length b - at) at)) → w ≡ true
-      → dose ≡ dose_at b at → n ≡ sofar + dose.milligrams.0 + sum_of (doses_of b (places_from b (length b - end) end))
+  pub summed : {dose : Dose} {m : ℕ} → n ≡ sofar + sum_of (doses_of b (places_from b (length b - at) at)) → o ≡ Some dose
+      → m ≡ dose.milligrams.0 → n ≡ sofar + m + sum_of (doses_of b (places_from b (length b - end) end))
   unfolding sum_of
-  summed inv k q = let d = ap sum_of (weighed b at l e h k q) in omega arith
+  summed inv k q =
+      let found = has_dose b at (sym h ∙ k) in
+      let d = ap sum_of (weighed b at l e refl found.0 found.1) in
+      omega arith
 
-pub skipped : (f : List Dose → ℕ) (b : List ℕ) (at : ℕ) → at < length b → {end : ℕ} → end ≡ record_end b at → {w : Bool}
-    → w ≡ is_weighed (kind_at b at) → w ≡ false → (sofar : ℕ) {n : ℕ}
-    → n ≡ sofar + f (doses_of b (places_from b (length b - at) at))
+pub skipped : (f : List Dose → ℕ) (b : List ℕ) (at : ℕ) → at < length b → {end : ℕ} → end ≡ record_end b at
+    → {o : Option Dose} → o ≡ dose_of b at → o ≡ None → (sofar : ℕ) {n : ℕ} → n ≡ sofar + f (doses_of b (places_from b (length b - at) at))
     → n ≡ sofar + f (doses_of b (places_from b (length b - end) end))
-skipped f b at l e h k sofar inv = inv ∙ rw (remark b at l e h k)
+skipped f b at l e h k sofar inv = inv ∙ rw (remark b at l e refl (no_dose b at (sym h ∙ k)))
 
 pub spent : (known : ℕ → Bool) (b : List ℕ) (at count sum : ℕ) {x : Verdict} {n m : ℕ}
     → x ≡ records_check known b (places_from b (length b - at) at)
     → n ≡ count + length (doses_of b (places_from b (length b - at) at))
     → m ≡ sum + sum_of (doses_of b (places_from b (length b - at) at))
-    → length b ≤ at → Doses count sum ≡ weighed_as x n m
+    → length b ≤ at → Ok (record { count = count; sum = sum }) ≡ weighed_as x n m
 unfolding sum_of
 spent known b at count sum {n = n} {m = m} p q r h =
     let d = ap length (no_doses b at h) in
@@ -95,55 +112,3 @@ spent known b at count sum {n = n} {m = m} p q r h =
     let n-eq : n ≡ count = omega arith in
     let m-eq : m ≡ sum = omega arith in
     rw (p ∙ ap (records_check known b) (none b _ at h) ∙ check_nil known b, n-eq, m-eq)
-
--- checks 20 to 22 of one record, in the shape of what is known in a turn: w says whether it is weighed, end is where the next
--- one starts, x what the checks of all came to
-module _ (edition : ℕ) (b : List ℕ) (at : ℕ) (l : at < length b) {end : ℕ} (e : end ≡ record_end b at) {w : Bool}
-    (h : w ≡ is_weighed (kind_at b at)) {x : Verdict}
-    (inv : x ≡ records_check (is_known edition) b (places_from b (length b - at) at)) where
-  fits : end ≤ length b → body_fits b at ≡ true
-  fits m = le-leb (record_end b at) (length b) (omega arith)
-
-  past : length b < end → body_fits b at ≡ false
-  past m = lt-leb (record_end b at) (length b) (omega arith)
-
-  module _ (t : w ≡ false) where
-    pub remark_past : length b < end → (count sum : ℕ) → Unsound 21 at ≡ weighed_as x count sum
-    unfolding record_check check
-    remark_past m count sum = ends (is_known edition) b at l {v = Fail 21 at} (rw (sym h ∙ t, past m)) inv count sum refl
-
-    pub remark_turn : end ≤ length b → x ≡ records_check (is_known edition) b (places_from b (length b - end) end)
-    unfolding record_check check
-    remark_turn m = turn (is_known edition) b at l {v = Pass} (rw (sym h ∙ t, fits m)) inv e refl
-
-  module _ (t : w ≡ true) {k : Bool} (g : k ≡ is_known edition (kind_at b at)) where
-    pub unknown : not k ≡ true → (count sum : ℕ) → Unsound 20 at ≡ weighed_as x count sum
-    unfolding record_check check
-    unknown n count sum = ends (is_known edition) b at l {v = Fail 20 at} (rw (sym h ∙ t, sym g ∙ not-true k n)) inv count sum refl
-
-    module _ (n : not k ≡ false) where
-      pub weighed_past : length b < end → (count sum : ℕ) → Unsound 21 at ≡ weighed_as x count sum
-      unfolding record_check check
-      weighed_past m count sum =
-          ends (is_known edition) b at l {v = Fail 21 at} (rw (sym h ∙ t, sym g ∙ not-false k n, past m)) inv count sum refl
-
-      pub within_book : end ≤ length b → at + 7 ≤ length b
-      within_book m =
-          let q = six edition (kind_at b at) (sym h ∙ t) (sym g ∙ not-false k n) in
-          omega arith
-
-      module _ (m : end ≤ length b) {dose : Dose} (d : dose ≡ dose_at b at) {o : Bool} (u : o ≡ dose_lawful dose) where
-        lawful : dose_lawful (dose_at b at) ≡ o
-        lawful = sym (u ∙ ap dose_lawful d)
-
-        pub unlawful : not o ≡ true → (count sum : ℕ) → Unsound 22 at ≡ weighed_as x count sum
-        unfolding record_check check
-        unlawful z count sum =
-            ends (is_known edition) b at l {v = Fail 22 at}
-            (rw (sym h ∙ t, sym g ∙ not-false k n, fits m, lawful ∙ not-true o z)) inv count sum refl
-
-        pub weighed_turn : not o ≡ false → x ≡ records_check (is_known edition) b (places_from b (length b - end) end)
-        unfolding record_check check
-        weighed_turn z =
-            turn (is_known edition) b at l {v = Pass}
-            (rw (sym h ∙ t, sym g ∙ not-false k n, fits m, lawful ∙ not-false o z)) inv e refl

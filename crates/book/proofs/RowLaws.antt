@@ -1,6 +1,6 @@
 -- Rows of records and their bytes. Two rows of the same bytes (parts, one_row); the bytes that begin with a record: its
 -- kind, its end and what stands behind it (kind_here, inside, ends, end_here, behind), and its dose (dose_here).
-use Prim.Native.Nat.{ℕ, suc, ◌+◌, ◌-◌, ◌*◌, ◌%◌, ◌≤◌, ◌<◌}
+use Prim.Native.Nat.{ℕ, suc, ◌+◌, ◌*◌, ◌%◌, ◌≤◌, ◌<◌}
 use mathlib.Core.Path.{◌≡◌, refl, sym, ap, ◌∙◌}
 use mathlib.Core.List.{List, [], ◌∷◌, ◌++◌}
 use mathlib.Core.Bool.{Bool, true, false}

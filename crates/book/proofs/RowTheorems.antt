@@ -11,17 +11,15 @@ use native.Mathlib.Nat.{sub-zero}
 use native.Mathlib.Numerals.{add-one}
 use native.Mathlib.Omega.{arith}
 use borrow.Author.Tests.{le-leb, leb-true, leb-false}
-use Rattle.format.specs.declared.verdict.Verdict.TheVariants.{Pass}
-use Rattle.format.specs.Verdicts.{check}
+use Rattle.format.specs.Verdicts.{check, pass}
 use Rattle.format.proofs.VerdictLaws.{both_pass}
 use Rattle.book.specs.declared.dose.Dose.{Dose}
 use Rattle.book.specs.Kinds.{is_weighed, body_size, is_known}
-use Rattle.book.specs.Book.{kind_at, record_end, places_from, dose_at, dose_lawful, record_check, records_check}
+use Rattle.book.specs.Book.{kind_at, record_end, places_from, dose_at, weight_lawful, dose_lawful, record_check, records_check}
 use Rattle.book.specs.Doses.{doses_of, sum_of}
 use Rattle.book.specs.Rows.{BookRecord, row_bytes, Each, Sized, stated, stated_doses, LawfulWeighed, LawfulRow}
 use Rattle.book.specs.RowTheorems.{OneRow, HoldsDose, HoldDoses, PassIsRow, RowDoses, RowSum}
 use Rattle.book.proofs.PlaceLaws.{none, step}
-use Rattle.book.proofs.DoseLaws.{weight_last}
 use Rattle.book.proofs.RecordsLaws.{walk, weighed, remark, no_doses, check_step, check_nil}
 use Rattle.book.proofs.KindLaws.{six}
 use Rattle.book.proofs.PassLaws.{lawful_pass, record_pass, pass_first}
@@ -102,12 +100,19 @@ asked kind rule f = go (is_weighed kind) refl
 
 lawful_of : (dose : Dose) → (1 ≤ dose.oxide.0) × (dose.oxide.0 ≤ 999)
     → (1 ≤ dose.milligrams.0) × (dose.milligrams.0 ≤ 5000000) → dose_lawful dose ≡ true
-lawful_of dose o m = sym (weight_last dose o.0 o.1 m.0) ∙ le-leb dose.milligrams.0 5000000 m.1
+unfolding weight_lawful
+lawful_of dose o m =
+    rw (
+      le-leb 1 dose.oxide.0 o.0,
+      le-leb dose.oxide.0 999 o.1,
+      le-leb 1 dose.milligrams.0 m.0,
+      le-leb dose.milligrams.0 5000000 m.1,
+    )
 
 module _ (known : ℕ → Bool) (hold : HoldDoses known) (b : List ℕ) where
   -- a lawful record passes 20 to 22
   record_right : (at : ℕ) (r : BookRecord) (rest : List BookRecord) → drop at b ≡ row_bytes (r ∷ rest) → Sized r
-      → (128 ≤ r.kind → LawfulWeighed known r) → record_check known b at ≡ Pass
+      → (128 ≤ r.kind → LawfulWeighed known r) → record_check known b at ≡ pass
   unfolding record_check check
   record_right at r rest h s l =
       let from = here b at r rest h s in
@@ -127,7 +132,7 @@ module _ (known : ℕ → Bool) (hold : HoldDoses known) (b : List ℕ) where
       )
 
   rows_pass : (row : List BookRecord) (at : ℕ) → drop at b ≡ row_bytes row → Each Sized row → LawfulRow known row
-      → records_check known b (places_from b (length b - at) at) ≡ Pass
+      → records_check known b (places_from b (length b - at) at) ≡ pass
   rows_pass [] at h s l = ap (records_check known b) (none b _ at (gone b at h)) ∙ check_nil known b
   rows_pass (r ∷ rest) at h s l =
       let from = here b at r rest h s.0 in
@@ -153,7 +158,7 @@ module _ (known : ℕ → Bool) (hold : HoldDoses known) (b : List ℕ) where
         (sym (take-append-drop (body_size (kind_at b at)) (drop (at + 1) b))
         ∙ ap (λ (t : List ℕ). (there at).body ++ t) (drop-drop (body_size (kind_at b at)) (at + 1) b))
 
-    there_lawful : record_check known b at ≡ Pass → 128 ≤ kind_at b at → LawfulWeighed known (there at)
+    there_lawful : record_check known b at ≡ pass → 128 ≤ kind_at b at → LawfulWeighed known (there at)
     there_lawful p w =
         let f = record_pass known b at p in
         let t = le-leb 128 (kind_at b at) w in
@@ -172,8 +177,8 @@ module _ (known : ℕ → Bool) (hold : HoldDoses known) (b : List ℕ) where
   found_none : (at : ℕ) → length b ≤ at → Found at
   found_none at h = ([], rows.row_none ∙ sym (drop_of_length-le b h), tt, tt)
 
-  found_more : (at n : ℕ) → at < length b → records_check known b (at ∷ places_from b n (record_end b at)) ≡ Pass
-      → (record_end b at ≤ length b → records_check known b (places_from b n (record_end b at)) ≡ Pass → Found (record_end b at))
+  found_more : (at n : ℕ) → at < length b → records_check known b (at ∷ places_from b n (record_end b at)) ≡ pass
+      → (record_end b at ≤ length b → records_check known b (places_from b n (record_end b at)) ≡ pass → Found (record_end b at))
       → Found at
   found_more at n l p later =
       let f = pass_first known b at (places_from b n (record_end b at)) p in
@@ -187,12 +192,12 @@ module _ (known : ℕ → Bool) (hold : HoldDoses known) (b : List ℕ) where
         (there_lawful at l m f.0, rest.3),
       )
 
-  found : (n at : ℕ) → length b ≤ at + n → records_check known b (places_from b n at) ≡ Pass → Found at
+  found : (n at : ℕ) → length b ≤ at + n → records_check known b (places_from b n at) ≡ pass → Found at
   found zero at h p = found_none at (omega arith)
   found (suc n) at h p = go (leb (length b) at) refl (λ q. found n (record_end b at) (omega arith) q)
     where
       go : (t : Bool) → leb (length b) at ≡ t
-          → (records_check known b (places_from b n (record_end b at)) ≡ Pass → Found (record_end b at)) → Found at
+          → (records_check known b (places_from b n (record_end b at)) ≡ pass → Found (record_end b at)) → Found at
       go true e later = found_none at (leb-true (length b) at e)
       go false e later =
           found_more at n (leb-false (length b) at e) (ap (records_check known b) (sym (step b n at ∙ rw e)) ∙ p)

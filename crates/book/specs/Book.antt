@@ -1,9 +1,7 @@
 -- Document 01, "Book" and checks 19 to 22, for the kinds that an edition knows.
 use Rattle.std.specs.Prelude.{ℕ, zero, suc, ◌+◌, List, [], ◌∷◌, Bool, true, cond, ◌&&◌, length, get_or, leb}
 use Rattle.be.specs.Numbers.{be16_at, be32_at}
-use Rattle.format.specs.declared.verdict.Verdict.{Verdict}
-use Rattle.format.specs.declared.verdict.Verdict.TheVariants.{Pass}
-use Rattle.format.specs.Verdicts.{check, both}
+use Rattle.format.specs.Verdicts.{check, both, Verdict, pass}
 use Rattle.book.specs.declared.dose.Dose.{Dose}
 use Rattle.book.specs.Kinds.{is_weighed, body_size, is_bare, Part, Oxide, Milligrams, Lot, Other, part_size}
 use Rattle.book.specs.Kinds.{Body, Unknown, Holds, Kinds, kinds_of, last_edition}
@@ -92,15 +90,15 @@ record_check known b at =
     check (kind_allowed known (kind_at b at)) 20 at
     (check (body_fits b at) 21 at
     (check (weighed_right b at) 22 at
-    Pass))
+    pass))
 
 unfoldable pub records_check : (ℕ → Bool) → List ℕ → List ℕ → Verdict
-records_check known b [] = Pass
+records_check known b [] = pass
 records_check known b (at ∷ rest) = both (record_check known b at) (records_check known b rest)
 
 -- 19 | book over 4,096 bytes | 20001
 unfoldable pub length_check : List ℕ → Verdict
-length_check b = check (leb (length b) book_limit) 19 book_tag Pass
+length_check b = check (leb (length b) book_limit) 19 book_tag pass
 
 -- 19 to 22
 unfoldable pub book_check : (ℕ → Bool) → List ℕ → Verdict

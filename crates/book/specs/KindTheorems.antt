@@ -1,9 +1,9 @@
 -- What is proved of kinds and doses: BodiesSized, AnyKinds, KeptKinds.
 use Rattle.std.specs.Prelude.{ℕ, ◌+◌, ◌%◌, ◌≡◌, List, [], ◌∷◌, length}
-use Rattle.format.specs.declared.verdict.Verdict.TheVariants.{Pass}
 use Rattle.book.specs.Kinds.{Part, part_size, Holds, Kinds, knows, kinds_of}
 use Rattle.book.specs.Book.{book_check}
 use Rattle.book.specs.Doses.{doses_in, sum_of}
+use Rattle.format.specs.Verdicts.{pass}
 
 unfoldable pub parts_size : List Part → ℕ
 parts_size [] = 0
@@ -29,5 +29,5 @@ KeepsKinds earlier later = (kind : ℕ) (parts : List Part) → earlier kind ≡
 -- and the doses themselves, of a book that passes 19 to 22 by kinds that are kept
 abbrev pub KeptKinds : Type 0
 KeptKinds =
-    (earlier later : Kinds) → KeepsKinds earlier later → (b : List ℕ) → book_check (knows earlier) b ≡ Pass
+    (earlier later : Kinds) → KeepsKinds earlier later → (b : List ℕ) → book_check (knows earlier) b ≡ pass
     → doses_in earlier b ≡ doses_in later b

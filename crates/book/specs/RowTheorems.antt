@@ -1,10 +1,10 @@
 -- What is proved of a book's bytes and the rows of records that they are: OneRow, PassIsRow, RowDoses,
 -- RowSum.
 use Rattle.std.specs.Prelude.{ℕ, ◌%◌, ◌≤◌, ◌≡◌, ◌↔◌, List, Bool, true, length}
-use Rattle.format.specs.declared.verdict.Verdict.TheVariants.{Pass}
 use Rattle.book.specs.Book.{places, records_check}
 use Rattle.book.specs.Doses.{doses, sum_of}
 use Rattle.book.specs.Rows.{BookRecord, Each, IsRow, stated_doses, stated_sum, LawfulRow}
+use Rattle.format.specs.Verdicts.{pass}
 
 -- some bytes are a row in one way only
 abbrev pub OneRow : Type 0
@@ -22,7 +22,7 @@ HoldDoses known = (kind : ℕ) → known kind ≡ true → 128 ≤ kind → 6 �
 abbrev pub PassIsRow : Type 0
 PassIsRow =
     (known : ℕ → Bool) → HoldDoses known → (b : List ℕ)
-    → (records_check known b (places b) ≡ Pass) ↔ ((row : List BookRecord) × IsRow b row × LawfulRow known row)
+    → (records_check known b (places b) ≡ pass) ↔ ((row : List BookRecord) × IsRow b row × LawfulRow known row)
 
 -- the doses of a book are those that the weighed records of its row state, in order
 abbrev pub RowDoses : Type 0

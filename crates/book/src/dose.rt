@@ -3,18 +3,18 @@ ghost use Rattle.std.specs.Prelude.{◌≡◌, ◌+◌, ◌≤◌, length};
 ghost use Rattle.book.specs.Book.{dose_at, dose_lawful};
 
 // An oxide's code.
-#[derive(Clone, Copy)]
+#[derive(Clone, Copy, PartialEq, Eq, Default, Debug)]
 pub struct Oxide(pub u16);
 
 // A weight in milligrams.
-#[derive(Clone, Copy)]
+#[derive(Clone, Copy, PartialEq, Eq, Default, Debug)]
 pub struct Milligrams(pub u32);
 
 // The number of a lot; 0 where the record has none.
-#[derive(Clone, Copy)]
+#[derive(Clone, Copy, PartialEq, Eq, Default, Debug)]
 pub struct Lot(pub u32);
 
-#[derive(Clone, Copy)]
+#[derive(Clone, Copy, PartialEq, Eq, Default, Debug)]
 pub struct Dose {
     pub oxide: Oxide,
     pub milligrams: Milligrams,
@@ -35,13 +35,12 @@ impl Dose {
     pub const BYTES: usize = 12;
 
     // The lot of the weighed record at a place of a book.
+    #[tactic(auto, using(crate::proofs::KindLaws::lot_of))]
     pub fn lot_at(book: &[u8], at: usize) -> Lot
         ensures { result ≡ (dose_at book.now at).lot }
     {
-        if at < book.len() {
-            if book[at] == Self::LOT_KIND {
-                return Lot(be::be32(book, at + Self::LOT));
-            }
+        if at < book.len() && book[at] == Self::LOT_KIND {
+            return Lot(be::be32(book, at + Self::LOT));
         }
         Lot(0)
     }
@@ -50,18 +49,11 @@ impl Dose {
     pub fn at(book: &[u8], at: usize) -> Self
         ensures { result ≡ dose_at book.now at }
     {
-        let len = book.len();
-        if 7 <= len {
-            if at <= len - 7 {
-                return Self::within(book, at);
-            }
+        if book.len() <= at {
+            return Self::default();
         }
-        if len <= at {
-            return Self {
-                oxide: Oxide(0),
-                milligrams: Milligrams(0),
-                lot: Lot(0),
-            };
+        if Self::LOT <= book.len() - at {
+            return Self::within(book, at);
         }
         Self {
             oxide: Oxide(be::be16(book, at + Self::OXIDE)),
@@ -71,6 +63,7 @@ impl Dose {
     }
 
     // The same where the book has oxide and milligrams whole.
+    #[tactic(auto, unfolding(be::specs::Numbers::be16_at, be::specs::Numbers::be32_at))]
     pub(crate) fn within(book: &[u8], at: usize) -> Self
         requires { at + 7 ≤ length book.now }
         ensures { result ≡ dose_at book.now at }
@@ -85,18 +78,10 @@ impl Dose {
     }
 
     // Check 22: oxide 1 to 999, milligrams 1 to 5,000,000.
+    #[tactic(auto, unfolding(crate::specs::Book::weight_lawful))]
     pub fn lawful(self) -> bool
         ensures { result ≡ dose_lawful self }
     {
-        if self.oxide.0 < 1 {
-            return false;
-        }
-        if 999 < self.oxide.0 {
-            return false;
-        }
-        if self.milligrams.0 < 1 {
-            return false;
-        }
-        self.milligrams.0 <= 5000000
+        (1..=999).contains(&self.oxide.0) && (1..=5_000_000).contains(&self.milligrams.0)
     }
 }

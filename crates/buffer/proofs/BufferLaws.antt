@@ -1,29 +1,22 @@
--- Stores of a dose in a buffer (three_numbers, of_dose), and a walk that stores a book's doses however they are spelled, for
--- each way through it (turn_remark, turn_weighed, done, full). For callers: numbers_room.
-use Prim.Native.Nat.{ℕ, suc, ◌+◌, ◌-◌, ◌*◌, ◌≤◌, ◌<◌}
-use mathlib.Core.Path.{◌≡◌, refl, sym, ◌∙◌}
-use mathlib.Core.List.{List, [], ◌∷◌}
-use mathlib.Core.Bool.{Bool, true, false}
-use lib.ListN.{length, set}
-use lib.Seq.{sets}
-use native.Mathlib.Numerals.{add-one}
-use native.Mathlib.Omega.{arith}
+-- Stores of a dose in a buffer (three_numbers, of_dose), and a walk that stores the doses at some places of a book, however
+-- they are spelled: where it begins, for each turn, and where it ends (begun, turn, done, full). For callers: numbers_room.
+use Rattle.std.proofs.Common.{ℕ, ◌+◌, ◌*◌, ◌≤◌, ◌≡◌, refl, sym, ◌∙◌, List, [], ◌∷◌, length, map, set, suc, add-one, arith}
+use Rattle.std.proofs.lemmas.List.Edits.{sets}
 use Rattle.put.proofs.PutLaws.{sets_append, sets_past}
 use Rattle.book.specs.declared.dose.Dose.{Dose}
-use Rattle.book.specs.Kinds.{is_weighed, body_size}
-use Rattle.book.specs.Book.{kind_at, places_from, dose_at}
-use Rattle.book.specs.Doses.{doses_of}
-use Rattle.book.proofs.PlaceLaws.{end_of}
-use Rattle.book.proofs.RecordsLaws.{weighed, remark, no_doses}
+use Rattle.book.specs.Book.{places, dose_at}
+use Rattle.book.specs.Doses.{weighed_of, doses}
+use Rattle.book.proofs.WeighingLaws.{doses_there}
 use Rattle.buffer.specs.Buffer.{numbers_per_dose, numbers_of}
 
-pub three_numbers : (out : List ℕ) (i : ℕ) (dose : Dose) {o₁ o₂ o₃ : List ℕ} → o₁ ≡ set out i dose.oxide.0
+-- o is the oxide, as a number of the buffer
+pub three_numbers : (out : List ℕ) (i : ℕ) (dose : Dose) {o : ℕ} {o₁ o₂ o₃ : List ℕ} → o ≡ dose.oxide.0 → o₁ ≡ set out i o
     → o₂ ≡ set o₁ (i + 1) dose.milligrams.0 → o₃ ≡ set o₂ (i + 2) dose.lot.0
     → o₃ ≡ sets out i (numbers_of (dose ∷ []))
 unfolding numbers_of
-three_numbers out i dose p q r =
+three_numbers out i dose h p q r =
     let k : i + 2 ≡ suc (suc i) = omega arith in
-    r ∙ rw (q, p, k, add-one)
+    r ∙ rw (q, p, k, add-one, h)
 
 pub of_dose : (spell : List Dose → List ℕ) (b out : List ℕ) (at i : ℕ) {dose : Dose} {after : List ℕ}
     → dose ≡ dose_at b at → after ≡ sets out i (spell (dose ∷ [])) → after ≡ sets out i (spell (dose_at b at ∷ []))
@@ -39,29 +32,23 @@ pub numbers_more : (out : List ℕ) (i : ℕ) (dose : Dose) (rest : List Dose)
 unfolding numbers_of
 numbers_more out i dose rest = sets_append out i (numbers_of (dose ∷ [])) (numbers_of rest)
 
--- a turn of a walk that spells the doses in either way: v is what the buffer is to be, and that is what it is now, with
--- the doses that are left from i on
-module _ (spell : List Dose → List ℕ) where
-  pub turn_remark : (b out : List ℕ) (at i : ℕ) {size : ℕ} {w : Bool} {v : List ℕ} → at < length b
-      → v ≡ sets out i (spell (doses_of b (places_from b (length b - at) at)))
-      → size ≡ body_size (kind_at b at) → w ≡ is_weighed (kind_at b at) → w ≡ false
-      → v ≡ sets out i (spell (doses_of b (places_from b (length b - (at + 1 + size)) (at + 1 + size))))
-  turn_remark b out at i l inv e h k = inv ∙ rw (remark b at l (end_of b at e) h k)
+-- v is what the buffer is to be, and that is what it is now, with the doses at the places that are left from i on
+module _ (spell : List Dose → List ℕ) (b : List ℕ) where
+  pub begun : (out : List ℕ) {ps : List ℕ} → ps ≡ weighed_of b (places b)
+      → sets out 0 (spell (doses b)) ≡ sets out 0 (spell (map (dose_at b) ps))
+  begun out h = rw (h, doses_there b (places b))
 
-  pub turn_weighed : (width : ℕ)
+  pub turn : (width : ℕ)
       → ((out : List ℕ) (i : ℕ) (dose : Dose) (rest : List Dose)
       → sets out i (spell (dose ∷ rest)) ≡ sets (sets out i (spell (dose ∷ []))) (i + width) (spell rest))
-      → (b out : List ℕ) (at i : ℕ) {size : ℕ} {w : Bool} {v after : List ℕ} → at < length b
-      → v ≡ sets out i (spell (doses_of b (places_from b (length b - at) at)))
-      → size ≡ body_size (kind_at b at) → w ≡ is_weighed (kind_at b at) → w ≡ true
-      → after ≡ sets out i (spell (dose_at b at ∷ []))
-      → v ≡ sets after (i + width) (spell (doses_of b (places_from b (length b - (at + 1 + size)) (at + 1 + size))))
-  turn_weighed width more b out at i l inv e h k g =
-      rw g (inv ∙ rw (weighed b at l (end_of b at e) h k refl) (more out i (dose_at b at) _))
+      → (out : List ℕ) (i : ℕ) {at : ℕ} {ps rest v after : List ℕ}
+      → v ≡ sets out i (spell (map (dose_at b) ps)) → ps ≡ at ∷ rest
+      → after ≡ sets out i (spell (dose_at b at ∷ [])) → v ≡ sets after (i + width) (spell (map (dose_at b) rest))
+  turn width more out i {at} {rest = rest} inv h g = rw g (inv ∙ rw h (more out i (dose_at b at) (map (dose_at b) rest)))
 
-  pub done : (spell [] ≡ []) → (b out : List ℕ) (at i : ℕ) {v : List ℕ}
-      → v ≡ sets out i (spell (doses_of b (places_from b (length b - at) at))) → length b ≤ at → out ≡ v
-  done none b out at i inv h = sym (inv ∙ rw (no_doses b at h, none))
+  pub done : (spell [] ≡ []) → (out : List ℕ) (i : ℕ) {ps v : List ℕ}
+      → v ≡ sets out i (spell (map (dose_at b) ps)) → ps ≡ [] → out ≡ v
+  done none out i inv h = sym (inv ∙ rw (h, none))
 
 pub full : (out left : List ℕ) (i : ℕ) {v : List ℕ} → v ≡ sets out i left → length out ≤ i → out ≡ v
 full out left i inv h = sym (inv ∙ sets_past out i left h)

@@ -5,7 +5,7 @@ ghost use Rattle.std.specs.Prelude.{◌≡◌, ◌+◌, ◌<◌, ◌^◌, [], �
 ghost use Rattle.std.proofs.lemmas.List.Edits.{sets};
 ghost use Rattle.buffer.specs.Buffer.{numbers_per_dose, numbers_of, with_doses};
 
-use book::{Dose, body_size, is_weighed};
+use book::{Dose, Weighings};
 
 // How many numbers a dose takes in a buffer of numbers.
 const NUMBERS: usize = Dose::NUMBERS as usize;
@@ -24,7 +24,7 @@ fn put_dose(out: &mut [u32], i: usize, dose: Dose)
     requires { i + numbers_per_dose < 2 ^ 64 }
     ensures { out.new ≡ sets out.old i (numbers_of (dose ∷ [])) }
 {
-    put(out, i, dose.oxide.0 as u32);
+    put(out, i, u32::from(dose.oxide.0));
     put(out, i + 1, dose.milligrams.0);
     put(out, i + 2, dose.lot.0);
 }
@@ -33,18 +33,12 @@ fn put_dose(out: &mut [u32], i: usize, dose: Dose)
 pub fn write(book: &[u8], out: &mut [u32])
     ensures { out.new ≡ with_doses book.now out.old }
 {
-    let mut at = 0;
     let mut i = 0;
-    while at < book.len() {
+    for at in Weighings::of(book) {
         if out.len() <= i {
             return;
         }
-        let here = at;
-        let kind = book[here];
-        at = here + 1 + body_size(kind);
-        if is_weighed(kind) {
-            put_dose(out, i, Dose::at(book, here));
-            i += NUMBERS;
-        }
+        put_dose(out, i, Dose::at(book, at));
+        i += NUMBERS;
     }
 }

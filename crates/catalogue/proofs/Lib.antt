@@ -1,3 +1,2 @@
 pub mod CatalogueLaws
 pub mod ListLaws
-pub mod LineLaws

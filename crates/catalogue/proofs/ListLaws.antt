@@ -12,7 +12,7 @@ use native.Mathlib.Omega.{arith}
 use borrow.Author.Tests.{leb-true, le-leb}
 use Rattle.catalogue.specs.declared.Line.{Line}
 use Rattle.catalogue.specs.Catalogue.{signature_lines, header_lines, signature_count, line_count}
-use Rattle.catalogue.specs.Catalogue.{line_of, line_at, in_edition, is_rising}
+use Rattle.catalogue.specs.Catalogue.{no_line, line_at, in_edition, is_rising}
 use Rattle.catalogue.specs.Lists.{Listed, Above, Rising, KeepsLines, had_line, lines_had, signature_of, header_of}
 use Rattle.catalogue.proofs.CatalogueLaws.{length_signature, length_header, signature_at, header_at_lem}
 use Rattle.catalogue.proofs.CatalogueLaws.{rising_parts, parts_rise}
@@ -29,29 +29,29 @@ rest_rises line (other ∷ rest) a = a.1
 
 module _ (edition : ℕ) where
   -- the lines behind row a stand above its tag, and above any lower one
-  had_above : (a : List ℕ) (rows : List (List ℕ)) → is_rising (a ∷ rows) ≡ true
-      → (tag : ℕ) → tag ≤ (line_of a).tag → Above tag (lines_had edition rows)
+  had_above : (a : Line) (rows : List Line) → is_rising (a ∷ rows) ≡ true
+      → (tag : ℕ) → tag ≤ a.tag → Above tag (lines_had edition rows)
   unfolding lines_had
   had_above a [] t tag l = tt
   had_above a (b ∷ rest) t tag l =
       let p = rising_parts a b rest t in
-      let m : tag < (line_of b).tag = let k = p.0 in omega arith in
-      go (in_edition edition (line_of b)) m (had_above b rest p.1)
+      let m : tag < b.tag = let k = p.0 in omega arith in
+      go (in_edition edition b) m (had_above b rest p.1)
     where
-      go : (c : Bool) → tag < (line_of b).tag → ((least : ℕ) → least ≤ (line_of b).tag → Above least (lines_had edition rest))
-          → Above tag (cond c (had_line (line_of b) ∷ lines_had edition rest) (lines_had edition rest))
-      go true m behind = (m, behind (line_of b).tag (omega arith))
+      go : (c : Bool) → tag < b.tag → ((least : ℕ) → least ≤ b.tag → Above least (lines_had edition rest))
+          → Above tag (cond c (had_line b ∷ lines_had edition rest) (lines_had edition rest))
+      go true m behind = (m, behind b.tag (omega arith))
       go false m behind = behind tag (omega arith)
 
-  pub rises : (rows : List (List ℕ)) → is_rising rows ≡ true → Rising (lines_had edition rows)
+  pub rises : (rows : List Line) → is_rising rows ≡ true → Rising (lines_had edition rows)
   unfolding lines_had
   rises [] t = tt
-  rises (a ∷ rest) t = go (in_edition edition (line_of a)) (had_above a rest t (line_of a).tag (omega arith))
+  rises (a ∷ rest) t = go (in_edition edition a) (had_above a rest t a.tag (omega arith))
     where
-      go : (c : Bool) → Above (line_of a).tag (lines_had edition rest)
-          → Rising (cond c (had_line (line_of a) ∷ lines_had edition rest) (lines_had edition rest))
+      go : (c : Bool) → Above a.tag (lines_had edition rest)
+          → Rising (cond c (had_line a ∷ lines_had edition rest) (lines_had edition rest))
       go true behind = behind
-      go false behind = rest_rises (had_line (line_of a)) (lines_had edition rest) behind
+      go false behind = rest_rises (had_line a) (lines_had edition rest) behind
 
   pub rises_signature : Rising (signature_of edition)
   rises_signature = rises signature_lines parts_rise.0
@@ -60,15 +60,15 @@ module _ (edition : ℕ) where
   rises_header = rises header_lines parts_rise.1
 
   -- a row that the edition has is listed
-  pub listed_at : (rows : List (List ℕ)) (i : ℕ) → i < length rows → in_edition edition (line_of (get_or rows i [])) ≡ true
-      → Listed (had_line (line_of (get_or rows i []))) (lines_had edition rows)
+  pub listed_at : (rows : List Line) (i : ℕ) → i < length rows → in_edition edition (get_or rows i no_line) ≡ true
+      → Listed (had_line (get_or rows i no_line)) (lines_had edition rows)
   unfolding lines_had
   listed_at [] i h e = absurd (omega arith)
   listed_at (a ∷ rest) zero h e = rw e (inl refl)
-  listed_at (a ∷ rest) (suc i) h e = go (in_edition edition (line_of a)) _ (listed_at rest i (omega arith) e)
+  listed_at (a ∷ rest) (suc i) h e = go (in_edition edition a) _ (listed_at rest i (omega arith) e)
     where
       go : (c : Bool) (line : Line) → Listed line (lines_had edition rest)
-          → Listed line (cond c (had_line (line_of a) ∷ lines_had edition rest) (lines_had edition rest))
+          → Listed line (cond c (had_line a ∷ lines_had edition rest) (lines_had edition rest))
       go true line l = inr l
       go false line l = l
 
@@ -83,22 +83,22 @@ module _ (edition : ℕ) where
       rw (header_at_lem i from) (listed_at header_lines (i - signature_count) (omega (arith, length_header)))
 
   -- what holds of the line of each row that the edition has holds of each line listed
-  pub each_had : (P : Line → Type 0) (rows : List (List ℕ))
-      → ((i : ℕ) → i < length rows → in_edition edition (line_of (get_or rows i [])) ≡ true → P (had_line (line_of (get_or rows i []))))
+  pub each_had : (P : Line → Type 0) (rows : List Line)
+      → ((i : ℕ) → i < length rows → in_edition edition (get_or rows i no_line) ≡ true → P (had_line (get_or rows i no_line)))
       → (line : Line) → Listed line (lines_had edition rows) → P line
   unfolding lines_had
   each_had P [] f line l = absurd l
   each_had P (a ∷ rest) f line l =
-      go (in_edition edition (line_of a)) refl l (each_had P rest (λ i h. f (suc i) (omega arith)) line)
+      go (in_edition edition a) refl l (each_had P rest (λ i h. f (suc i) (omega arith)) line)
     where
-      go : (c : Bool) → in_edition edition (line_of a) ≡ c
-          → Listed line (cond c (had_line (line_of a) ∷ lines_had edition rest) (lines_had edition rest))
+      go : (c : Bool) → in_edition edition a ≡ c
+          → Listed line (cond c (had_line a ∷ lines_had edition rest) (lines_had edition rest))
           → (Listed line (lines_had edition rest) → P line) → P line
       go true e (inl q) behind = subst P (sym q) (f 0 (omega arith) e)
       go true e (inr m) behind = behind m
       go false e m behind = behind m
 
-pub kept : (edition later : ℕ) → edition ≤ later → (rows : List (List ℕ))
+pub kept : (edition later : ℕ) → edition ≤ later → (rows : List Line)
     → KeepsLines (lines_had edition rows) (lines_had later rows)
 kept edition later l rows =
     each_had edition (λ (line : Line). Listed line (lines_had later rows)) rows

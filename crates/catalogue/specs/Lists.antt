@@ -2,8 +2,8 @@
 -- and the lines that an edition has in each part of the catalogue.
 use Rattle.std.specs.Prelude.{ℕ, ◌<◌, ◌≡◌, ◌⊎◌, List, [], ◌∷◌, cond}
 use Rattle.catalogue.specs.declared.Line.{Line}
-use Rattle.catalogue.specs.Words.{optional, required}
-use Rattle.catalogue.specs.Catalogue.{signature_lines, header_lines, line_of, in_edition, is_required}
+use Rattle.catalogue.specs.declared.Status.TheVariants.{Optional, Required}
+use Rattle.catalogue.specs.Catalogue.{signature_lines, header_lines, in_edition, is_required}
 
 abbrev pub Listed : Line → List Line → Type 0
 Listed line [] = ⊥
@@ -26,13 +26,13 @@ KeepsLines earlier later = (line : Line) → Listed line earlier → Listed line
 -- a line as an edition has it: required or not, without the edition with which it begins
 abbrev pub had_line : Line → Line
 had_line line =
-    record { tag = line.tag; ty = line.ty; count = line.count; status = cond (is_required line) required optional }
+    record { tag = line.tag; ty = line.ty; count = line.count; status = cond (is_required line) Required Optional }
 
 -- the lines of a part of the catalogue that an edition has, in its order
-unfoldable pub lines_had : ℕ → List (List ℕ) → List Line
+unfoldable pub lines_had : ℕ → List Line → List Line
 lines_had edition [] = []
 lines_had edition (a ∷ rest) =
-    cond (in_edition edition (line_of a)) (had_line (line_of a) ∷ lines_had edition rest) (lines_had edition rest)
+    cond (in_edition edition a) (had_line a ∷ lines_had edition rest) (lines_had edition rest)
 
 abbrev pub signature_of : ℕ → List Line
 signature_of edition = lines_had edition signature_lines

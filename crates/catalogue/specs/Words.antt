@@ -1,4 +1,4 @@
--- The numbers of the catalogue in the words of the papers: types, counts and statuses.
+-- The numbers of the catalogue's types in the words of the papers.
 use Rattle.std.specs.Prelude.{ℕ}
 
 abbrev pub char : ℕ
@@ -24,19 +24,3 @@ string_array = 8
 
 abbrev pub translated : ℕ
 translated = 9
-
--- a blank count is any; a printed one is exact
-abbrev pub any : ℕ
-any = 0
-
--- every status other than "Required"
-abbrev pub optional : ℕ
-optional = 0
-
--- required, a line of every edition
-abbrev pub required : ℕ
-required = 1
-
--- required, a line of edition 2 and later
-abbrev pub required_from2 : ℕ
-required_from2 = 2

@@ -3,21 +3,31 @@
 #![tactic(auto)]
 
 ghost use Rattle.std.specs.Prelude.{◌≡◌};
-ghost use Rattle.catalogue.specs.Catalogue.{catalogue, flat, line_at, line_in, in_edition, is_required, is_as_line};
+ghost use Rattle.catalogue.specs.Catalogue.{catalogue, line_at, in_edition, is_required, is_as_line};
 
 mod numbers;
 
 use numbers::CATALOGUE;
+
+// Whether a line's tag must be present, and in which editions.
+#[derive(Clone, Copy, PartialEq, Eq)]
+pub enum Status {
+    // May be absent.
+    Optional,
+    // Must be present.
+    Required,
+    // Must be present: a line of this edition and later ones only.
+    RequiredFrom(u32),
+}
 
 // One line of the catalogue.
 #[derive(Clone, Copy)]
 pub struct Line {
     pub tag: u32,
     pub ty: u32,
-    // An exact count; 0 is any.
-    pub count: u32,
-    // 0: may be absent. 1: required. 2: required, a line of edition 2 and later.
-    pub status: u32,
+    // An exact count; `None` is any.
+    pub count: Option<u32>,
+    pub status: Status,
 }
 
 impl Line {
@@ -26,69 +36,53 @@ impl Line {
     // How many of them are the signature's, which come first.
     pub const SIGNATURE: usize = 11;
 
-    // How many numbers a line has.
-    pub const WIDTH: usize = 4;
-    // How many numbers all lines have.
-    pub const NUMBERS: usize = 328;
+    // What stands past the end.
+    const NONE: Self = Self {
+        tag: 0,
+        ty: 0,
+        count: None,
+        status: Status::Optional,
+    };
 
-    // Line `i`, counted from 0. Past the end its four numbers are 0.
+    // Line `i`, counted from 0. Past the end tag and type are 0, any count is right and the status is optional.
+    #[tactic(auto, unfolding(crate::specs::Catalogue::line_at))]
     pub fn at(i: usize) -> Self
         ensures { result ≡ line_at i }
     {
-        let lines = table();
-        Self::in_table(&lines, i)
-    }
-
-    // Line `i` of a table of numbers, four to a line. Past the end its four numbers are 0.
-    pub fn in_table(table: &[u32; Line::NUMBERS], i: usize) -> Self
-        ensures { result ≡ line_in table.now i }
-    {
-        if Self::ALL <= i {
-            return Self {
-                tag: 0,
-                ty: 0,
-                count: 0,
-                status: 0,
-            };
-        }
-        let from = i * Self::WIDTH;
-        let tag = table[from];
-        let ty = table[from + 1];
-        let count = table[from + 2];
-        let status = table[from + 3];
-        Self {
-            tag,
-            ty,
-            count,
-            status,
-        }
+        table().get(i).copied().unwrap_or(Self::NONE)
     }
 
     // Whether an edition, from 1 on, has this line.
     pub fn in_edition(self, edition: u32) -> bool
         ensures { result ≡ in_edition edition self }
     {
-        self.status <= edition
+        match self.status {
+            Status::Optional => true,
+            Status::Required => 1 <= edition,
+            Status::RequiredFrom(first) => first <= edition,
+        }
     }
 
     // Whether its tag must be present.
     pub fn is_required(self) -> bool
         ensures { result ≡ is_required self }
     {
-        1 <= self.status
+        self.status != Status::Optional
     }
 
     // Whether a type and a count are the line's.
+    #[tactic(auto, unfolding(crate::specs::Catalogue::is_as_line))]
     pub fn allows(self, ty: u32, count: u32) -> bool
         ensures { result ≡ is_as_line self ty count }
     {
-        self.ty == ty && (self.count == 0 || self.count == count)
+        self.ty == ty && self.count.is_none_or(|exact| exact == count)
     }
 }
 
-// The numbers of the whole catalogue, four to a line.
-pub fn table() -> [u32; Line::NUMBERS]
-    ensures { result ≡ flat catalogue }
+// The whole catalogue, lent.
+#[tactic(auto, unfolding(crate::specs::Catalogue::catalogue, crate::specs::Catalogue::signature_lines, crate::specs::Catalogue::header_lines))]
+pub fn table() -> &'static [Line; Line::ALL]
+    ensures { result.now ≡ catalogue }
 {
-    CATALOGUE
+    &CATALOGUE
 }

@@ -3,9 +3,8 @@
 -- part.
 use mathlib.Core.Path.{◌≡◌, refl, subst}
 use mathlib.Core.Logic.{⊎_map, ◌⊎◌, inl, inr}
-use Rattle.format.specs.declared.verdict.Verdict.{Verdict}
-use Rattle.format.specs.declared.verdict.Verdict.TheVariants.{Pass, Fail}
-use Rattle.format.specs.Verdicts.{both}
+use Rattle.format.specs.Verdicts.{both, Verdict}
+use Rattle.std.specs.Prelude.{Ok, Err}
 
 module _ (Early Late : Verdict → Type 0) where
   abbrev pub Related : Verdict → Verdict → Type 0
@@ -13,8 +12,8 @@ module _ (Early Late : Verdict → Type 0) where
 
   pub same_first : (a b b' : Verdict) → Related b b' → Related (both a b) (both a b')
   unfolding both
-  same_first Pass b b' q = q
-  same_first (Fail n p) b b' q = inl refl
+  same_first (Ok _) b b' q = q
+  same_first (Err e) b b' q = inl refl
 
   -- what is excused is a refusal, so what comes after it changes nothing
   module _ (early_stays : (v w : Verdict) → Early v → Early (both v w))

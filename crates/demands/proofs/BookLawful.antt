@@ -4,7 +4,6 @@ use mathlib.Core.Path.{◌≡◌, ◌∙◌}
 use mathlib.Core.Logic.{◌↔◌}
 use mathlib.Core.List.{List}
 use mathlib.Core.Bool.{Bool}
-use Rattle.format.specs.declared.verdict.Verdict.TheVariants.{Pass}
 use Rattle.book.specs.Book.{length_check, book_check}
 use Rattle.book.specs.Kinds.{Kinds, kinds_of, last_edition}
 use Rattle.book.specs.Doses.{doses_in, sum_of}
@@ -14,9 +13,10 @@ use Rattle.book.proofs.KindTheorems.{any_kinds}
 use Rattle.book.proofs.RowTheorems.{lawful_hold, row_sum, pass_is_row}
 use Rattle.demands.specs.Lawful.{LawfulBook}
 use Rattle.demands.proofs.PassIff.{last_iff, both_iff, leb_iff}
+use Rattle.format.specs.Verdicts.{pass}
 
 module _ (known : ℕ → Bool) (hold : HoldDoses known) (b : List ℕ) where
-  pub book_lawful : (book_check known b ≡ Pass) ↔ LawfulBook known b
+  pub book_lawful : (book_check known b ≡ pass) ↔ LawfulBook known b
   unfolding book_check length_check
   book_lawful =
       simp (both_iff, last_iff, leb_iff, pass_is_row known hold b) (

@@ -2,11 +2,11 @@
 use Prim.Native.Nat.{ℕ, ◌≤◌, ◌<◌}
 use mathlib.Core.Path.{◌≡◌}
 use mathlib.Core.List.{List}
-use Rattle.format.specs.declared.verdict.Answer.{Answer}
 use Rattle.book.specs.Kinds.{last_edition}
 use Rattle.reading.specs.Buffers.{Form, ReadInto}
 use Rattle.demands.specs.Demands.{PairAgrees, ReadBothInto}
 use Rattle.demands.proofs.Demand3.{demand3}
+use Rattle.format.specs.Verdicts.{Answer}
 
 module _ (form : Form) (earlier later : ℕ) (s before before' : List ℕ) {first second : Answer} {after after' : List ℕ}
     (p : ReadInto form earlier s before first after) (q : ReadInto form later s before' second after') where

@@ -8,7 +8,6 @@ use mathlib.Core.Bool.{Bool}
 use lib.ListN.{length, drop}
 use native.Mathlib.Omega.{arith}
 use Rattle.format.specs.declared.section.Structure.TheVariants.{Header}
-use Rattle.format.specs.declared.verdict.Verdict.TheVariants.{Pass}
 use Rattle.format.specs.Sizes.{lead_size}
 use Rattle.structure.specs.Structure.{section_at}
 use Rattle.package.specs.Package.{header_start, signature_at, header_at}
@@ -39,6 +38,7 @@ use Rattle.demands.proofs.GroupLawful.{groups_lawful, directories_there}
 use Rattle.demands.proofs.TextLawful.{texts_lawful}
 use Rattle.demands.proofs.EditionInstances.{editions_lawful}
 use Rattle.demands.proofs.BookLawful.{book_lawful, book_sum}
+use Rattle.format.specs.Verdicts.{pass}
 
 module _ (edition : Edition) (s : List ℕ) where
   abbrev known : ℕ → Bool
@@ -63,7 +63,7 @@ module _ (edition : Edition) (s : List ℕ) where
 
   -- 14 to 18
   rules_lawful : (start : ℕ) → IsEdition edition → Apart s (signature_at s) → LawfulStructure Header s start
-      → (rules_check edition.signature edition.header s (length s) (signature_at s) (section_at s start) ≡ Pass)
+      → (rules_check edition.signature edition.header s (length s) (signature_at s) (section_at s start) ≡ pass)
       ↔ Ruled start
   unfolding rules_over
   rules_lawful start is apart lawful =
@@ -79,7 +79,7 @@ module _ (edition : Edition) (s : List ℕ) where
       texts_lawful s start lawful (text_lines edition is s signature header lines)
       (directories_there s signature header groups)
 
-  room_lawful : (room : ℕ) → (room_check edition.kinds room (book_of s) ≡ Pass) ↔ (needed edition.kinds (book_of s) ≤ room)
+  room_lawful : (room : ℕ) → (room_check edition.kinds room (book_of s) ≡ pass) ↔ (needed edition.kinds (book_of s) ≤ room)
   unfolding room_check
   room_lawful room = simp (last_iff, leb_iff) Iff.rfl
 
@@ -89,7 +89,7 @@ module _ (edition : Edition) (s : List ℕ) where
   -- 19 to 24
   part_lawful : IsEdition edition → HoldDoses known → (room : ℕ) → LawfulStructure Header s H
       → LawfulLines edition s (signature_at s) (header_at s)
-      → (book_part edition s (header_at s) room (book_of s) ≡ Pass) ↔ Weighed room H
+      → (book_part edition s (header_at s) room (book_of s) ≡ pass) ↔ Weighed room H
   unfolding book_part
   part_lawful is hold room lawful lines =
       let sum = sum_of (doses_in edition.kinds (book_of s)) in
@@ -102,7 +102,7 @@ module _ (edition : Edition) (s : List ℕ) where
   abbrev Blocks : ℕ → ℕ → Type 0
   Blocks room start = Parts s start × (Ruled start × (Digested start × Weighed room start))
 
-  blocks_lawful : IsEdition edition → HoldDoses known → (room : ℕ) → (checks_at edition s room ≡ Pass) ↔ Blocks room H
+  blocks_lawful : IsEdition edition → HoldDoses known → (room : ℕ) → (checks_at edition s room ≡ pass) ↔ Blocks room H
   unfolding checks_at opened_check
   blocks_lawful is hold room =
       then_iff _ _ (parts_lawful s) λ sound.

@@ -4,13 +4,13 @@ use mathlib.Core.Path.{◌≡◌, ◌∙◌}
 use mathlib.Core.Logic.{◌⊎◌, inl, inr}
 use mathlib.Core.List.{List}
 use native.Mathlib.Omega.{arith}
-use Rattle.format.specs.declared.verdict.Answer.{Answer}
 use Rattle.reading.specs.Editions.{edition_of}
 use Rattle.demands.specs.Editions.{ByAdded, Agree}
 use Rattle.demands.specs.Demands.{ByBatch, PairAgrees, Demand3}
 use Rattle.demands.proofs.EditionTheorems.{editions_agree}
 use Rattle.demands.proofs.EditionInstances.{editions_lawful, editions_extend, adds_batch}
 use Rattle.demands.proofs.EditionRuns.{editions_run}
+use Rattle.format.specs.Verdicts.{Answer}
 
 module _ (earlier later : ℕ) (l : 1 ≤ earlier) where
   -- the one line that a later edition adds is that of the batch weight

@@ -8,7 +8,6 @@ use lib.ListN.{length, take, drop}
 use native.Mathlib.Omega.{arith}
 use Rattle.format.specs.declared.section.Section.{Section}
 use Rattle.format.specs.declared.section.Structure.TheVariants.{Signature}
-use Rattle.format.specs.declared.verdict.Verdict.TheVariants.{Pass}
 use Rattle.format.specs.Places.{in_file}
 use Rattle.entries.specs.Types.{element_size}
 use Rattle.entries.specs.Entries.{record_at}
@@ -22,6 +21,7 @@ use Rattle.demands.proofs.PassIff.{last_iff, same_iff}
 use Rattle.demands.proofs.FoundLawful.{typed_found}
 use Rattle.demands.proofs.NumberLawful.{DigestLine}
 use Rattle.demands.proofs.StructureLawful.{entry_sound}
+use Rattle.format.specs.Verdicts.{pass}
 
 module _ (s : List ℕ) (start : ℕ) (lawful : LawfulStructure Signature s start) where
   abbrev signature : Section
@@ -47,7 +47,7 @@ module _ (s : List ℕ) (start : ℕ) (lawful : LawfulStructure Signature s star
 
   -- 27
   pub digest_lawful : (header : Section) → DigestLine s signature
-      → (digest_check s signature header ≡ Pass) ↔ DataIs s signature 1004 (digest (from_header s header))
+      → (digest_check s signature header ≡ pass) ↔ DataIs s signature 1004 (digest (from_header s header))
   unfolding digest_check
   digest_lawful header ((i, l, t), typed, counted) =
       simp last_iff

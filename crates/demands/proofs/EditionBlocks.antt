@@ -8,9 +8,7 @@ use lib.ListN.{length}
 use lib.Dec.{eqb}
 use native.Mathlib.Omega.{arith}
 use Rattle.format.specs.declared.section.Section.{Section}
-use Rattle.format.specs.declared.verdict.Verdict.{Verdict}
-use Rattle.format.specs.declared.verdict.Verdict.TheVariants.{Pass, Fail}
-use Rattle.format.specs.Verdicts.{check, both}
+use Rattle.format.specs.Verdicts.{check, both, Verdict, pass, refusal}
 use Rattle.format.proofs.VerdictLaws.{both_fail}
 use Rattle.package.specs.Package.{sound_check, signature_at, header_at}
 use Rattle.catalogue.specs.declared.Line.{Line}
@@ -32,16 +30,17 @@ use Rattle.demands.proofs.AgreementLaws.{Related, same_first, agree_both}
 use Rattle.demands.proofs.BookAgreement.{records_agree}
 use Rattle.demands.proofs.LineAgreement.{Refuses, refuses_stays, ByLine, lines_agree}
 use Rattle.demands.proofs.NumberLawful.{has_line_lem}
+use Rattle.std.specs.Prelude.{Err}
 
 -- the earlier edition stops with 20 at the first record of the book that it lacks
 abbrev pub Stops : Edition → List ℕ → Verdict → Type 0
-Stops earlier b v = (p : ℕ) × (v ≡ Fail 20 p) × (lacking_in earlier b ≡ First p)
+Stops earlier b v = (p : ℕ) × (v ≡ Err (refusal 20 p)) × (lacking_in earlier b ≡ First p)
 
 -- the later stops at a line that it adds
 abbrev pub StopsAdded : Edition → Edition → Verdict → Type 0
 StopsAdded earlier later v =
     ((line : Line) × AddsLine earlier later line × Refuses v line.tag)
-    ⊎ (Added earlier.header later.header batch_line × (v ≡ Fail 23 batch_tag))
+    ⊎ (Added earlier.header later.header batch_line × (v ≡ Err (refusal 23 batch_tag)))
 
 -- agreement over a book
 abbrev pub Alike : Edition → Edition → List ℕ → Verdict → Verdict → Type 0
@@ -114,7 +113,7 @@ module _ (earlier later : Edition) (lawful : IsEdition earlier) (lawful' : IsEdi
     sum_agrees header sum = go (has_batch earlier) (has_batch later) refl refl (eqb (weight_in s header) sum)
       where
         go : (x y : Bool) → has_batch earlier ≡ x → has_batch later ≡ y → (ok : Bool)
-            → Alike earlier later b (cond x (check ok 23 batch_tag Pass) Pass) (cond y (check ok 23 batch_tag Pass) Pass)
+            → Alike earlier later b (cond x (check ok 23 batch_tag pass) pass) (cond y (check ok 23 batch_tag pass) pass)
         go true true e l ok = inl refl
         go true false e l ok =
             let z : ◌≡◌ {A = Bool} false true = sym l ∙ batch_kept e in let y : ◌≡◌ {A = ℕ} 0 1 = cc in absurd (omega arith)

@@ -9,7 +9,6 @@ use mathlib.Core.Bool.{Bool, true, false, and-eq-true_iff}
 use native.Mathlib.Omega.{arith}
 use Rattle.format.specs.declared.section.Section.{Section}
 use Rattle.format.specs.declared.records.IndexRecord.{IndexRecord}
-use Rattle.format.specs.declared.verdict.Verdict.TheVariants.{Pass}
 use Rattle.entries.specs.Entries.{record_at}
 use Rattle.index.specs.Lookup.{tagged_in}
 use Rattle.tags.specs.Tags.{has, count_in}
@@ -24,21 +23,22 @@ use Rattle.demands.proofs.PassIff.{check_iff, last_iff, both_iff, eqb_iff, choic
 use Rattle.demands.proofs.TagLawful.{has_tag_lem, lacks_tag}
 use Rattle.demands.proofs.FoundLawful.{Apart, count_rule, counted_iff, same_count_iff}
 use Rattle.demands.proofs.LedLawful.{same_lawful, first_led, second_led}
+use Rattle.format.specs.Verdicts.{pass}
 
 needs_lawful : (s : List ℕ) (section : Section) (tag other : ℕ)
-    → (needs_check (tagged_in s section) tag other ≡ Pass) ↔ Needs s section tag other
+    → (needs_check (tagged_in s section) tag other ≡ pass) ↔ Needs s section tag other
 unfolding needs_check
 needs_lawful s section tag other = simp (last_iff, unless_iff, has_tag_lem) Iff.rfl
 
 -- counts that equal that of a tag that is present
 module _ (s : List ℕ) (header : Section) (apart : Apart s header) (leader : ℕ) (led : HasTag s header leader) where
-  count_lawful : (tag : ℕ) → (count_check (tagged_in s header) (count_in (tagged_in s header) leader) tag ≡ Pass) ↔ SameCount s header tag leader
+  count_lawful : (tag : ℕ) → (count_check (tagged_in s header) (count_in (tagged_in s header) leader) tag ≡ pass) ↔ SameCount s header tag leader
   unfolding count_check
   count_lawful tag =
       simp (last_iff, unless_iff, eqb_iff, counted_iff s header apart, same_count_iff s header apart leader) Iff.rfl
 
   counts_lawful : (tags : List ℕ)
-      → (counts_check (tagged_in s header) (count_in (tagged_in s header) leader) tags ≡ Pass)
+      → (counts_check (tagged_in s header) (count_in (tagged_in s header) leader) tags ≡ pass)
       ↔ Each tags (λ (tag : ℕ). SameCount s header tag leader)
   unfolding counts_check
   counts_lawful [] = (λ h. tt, λ h. refl)
@@ -52,7 +52,7 @@ module _ (s : List ℕ) (header : Section) (apart : Apart s header) (led : HasTa
       simp (and-eq-true_iff, not_iff, has_tag_lem, same_lawful s header apart 1028 led 1027)
       (λ k. (k.0.0.0, k.0.0.1, k.0.1, k.1), λ k. (((k.0, k.1), k.2), k.3))
 
-  new_lawful : (new_names_check (tagged_in s header) (count_in (tagged_in s header) 1028) ≡ Pass) ↔ NewNames s header
+  new_lawful : (new_names_check (tagged_in s header) (count_in (tagged_in s header) 1028) ≡ pass) ↔ NewNames s header
   unfolding new_names_check
   new_lawful =
       let names = same_lawful s header apart 1028 led 1116 in
@@ -62,7 +62,7 @@ module _ (s : List ℕ) (header : Section) (apart : Apart s header) (led : HasTa
         λ h. (h.0, (h.1, (h.2, ((names h.0).1 h.3, ((bases h.1).1 h.4, refl))))),
       )
 
-  names_lawful : (names_check (tagged_in s header) (count_in (tagged_in s header) 1028) ≡ Pass)
+  names_lawful : (names_check (tagged_in s header) (count_in (tagged_in s header) 1028) ≡ pass)
       ↔ ((HasTag s header 1027 → OldNames s header) × ((HasTag s header 1027 → ⊥) → NewNames s header))
   unfolding names_check
   names_lawful =
@@ -77,7 +77,7 @@ module _ (s : List ℕ) (header : Section) (apart : Apart s header) (listed : Ha
   at_most : (n : ℕ) → (n ≤ most) ↔ WhereTagged s header 100 (λ (e : IndexRecord). n ≤ e.count)
   at_most n = count_rule s header apart 100 (λ (count : ℕ). n ≤ count) listed
 
-  locales_lawful : (locales_check s header most ≡ Pass) ↔ LawfulLocales s header
+  locales_lawful : (locales_check s header most ≡ pass) ↔ LawfulLocales s header
   locales_lawful =
       let pass = locales_pass s header most in (
         λ h i l t.
@@ -87,7 +87,7 @@ module _ (s : List ℕ) (header : Section) (apart : Apart s header) (listed : Ha
       )
 
 pub groups_lawful : (s : List ℕ) (signature header : Section) → Apart s header → HasTag s header 1028 → HasTag s header 100
-    → (groups_check s header (tagged_in s signature) (tagged_in s header) ≡ Pass) ↔ LawfulGroups s signature header
+    → (groups_check s header (tagged_in s signature) (tagged_in s header) ≡ pass) ↔ LawfulGroups s signature header
 unfolding groups_check signature_pairs script_pairs led_groups
 groups_lawful s signature header apart led listed =
     simp (

@@ -9,11 +9,11 @@ use native.Mathlib.Omega.{arith}
 use borrow.Author.Tests.{eqb-true, eq-eqb}
 use Rattle.strings.specs.Strings.{strings_from, is_ended}
 use Rattle.strings.proofs.RowLaws.{single_among}
-use Rattle.format.specs.declared.verdict.Verdict.TheVariants.{Pass}
 use Rattle.format.specs.Lead.{lead_of}
 use Rattle.format.proofs.VerdictLaws.{passed, inverted}
 use Rattle.package.specs.Lead.{lead_check}
 use Rattle.demands.specs.Lawful.{LawfulLead}
+use Rattle.format.specs.Verdicts.{pass}
 
 module _ (s : List ℕ) where
   -- bytes 10 to 75
@@ -23,7 +23,7 @@ module _ (s : List ℕ) where
     λ h. (single_among s 66 10).1 (h.0, h.1, omega arith, h.3),
   )
 
-  lead_rules : lead_check (lead_of s) ≡ Pass → LawfulLead s
+  lead_rules : lead_check (lead_of s) ≡ pass → LawfulLead s
   unfolding lead_check
   lead_rules h =
       let k0 = inverted _ _ _ _ h in
@@ -43,7 +43,7 @@ module _ (s : List ℕ) where
         signature_type = eqb-true _ _ k78.0;
       }
 
-  lead_passes : LawfulLead s → lead_check (lead_of s) ≡ Pass
+  lead_passes : LawfulLead s → lead_check (lead_of s) ≡ pass
   unfolding lead_check
   lead_passes h =
       sym (passed _ _ (eq-eqb _ _ h.magic)
@@ -55,5 +55,5 @@ module _ (s : List ℕ) where
       (passed _ _ (eq-eqb _ _ h.signature_type)
       refl)))))))
 
-  pub lead_lawful : (lead_check (lead_of s) ≡ Pass) ↔ LawfulLead s
+  pub lead_lawful : (lead_check (lead_of s) ≡ pass) ↔ LawfulLead s
   lead_lawful = (lead_rules, lead_passes)

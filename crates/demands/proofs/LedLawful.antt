@@ -8,7 +8,6 @@ use mathlib.Core.List.{List}
 use mathlib.Core.Bool.{true, ◌||◌}
 use lib.Dec.{eqb}
 use Rattle.format.specs.declared.section.Section.{Section}
-use Rattle.format.specs.declared.verdict.Verdict.TheVariants.{Pass}
 use Rattle.index.specs.Lookup.{tagged_in}
 use Rattle.tags.specs.Tags.{has, count_in}
 use Rattle.groups.specs.Groups.{whole_check, led_check}
@@ -16,6 +15,7 @@ use Rattle.demands.specs.Lawful.{HasTag, SameCount, LawfulLed}
 use Rattle.demands.proofs.PassIff.{check_iff, eqb_iff, cond_iff, one_iff}
 use Rattle.demands.proofs.TagLawful.{has_tag_lem}
 use Rattle.demands.proofs.FoundLawful.{Apart, count_iff, same_count_iff}
+use Rattle.format.specs.Verdicts.{pass}
 
 -- a count that equals that of a tag that is present
 pub same_lawful : (s : List ℕ) (header : Section) → Apart s header
@@ -44,7 +44,7 @@ one_lawful s header a b c =
 
 module _ (s : List ℕ) (header : Section) (apart : Apart s header) (leader a b c : ℕ)
     (lead : AllOf s header a b c → HasTag s header leader) where
-  whole_lawful : (whole_check (tagged_in s header) (count_in (tagged_in s header) leader) a b c ≡ Pass)
+  whole_lawful : (whole_check (tagged_in s header) (count_in (tagged_in s header) leader) a b c ≡ pass)
       ↔ (AllOf s header a b c × SameAs s header leader a b c)
   unfolding whole_check
   whole_lawful =
@@ -60,7 +60,7 @@ module _ (s : List ℕ) (header : Section) (apart : Apart s header) (leader a b 
       )
 
   led_lawful : (HasTag s header leader → OneOf s header a b c)
-      → (led_check (tagged_in s header) leader a b c ≡ Pass) ↔ LawfulLed s header leader a b c
+      → (led_check (tagged_in s header) leader a b c ≡ pass) ↔ LawfulLed s header leader a b c
   unfolding led_check
   led_lawful one =
       simp (cond_iff, one_lawful, whole_lawful) (
@@ -77,9 +77,9 @@ module _ (s : List ℕ) (header : Section) (apart : Apart s header) (leader a b 
 
 -- the leader stands first or second
 pub first_led : (s : List ℕ) (header : Section) → Apart s header → (a b c : ℕ)
-    → (led_check (tagged_in s header) a a b c ≡ Pass) ↔ LawfulLed s header a a b c
+    → (led_check (tagged_in s header) a a b c ≡ pass) ↔ LawfulLed s header a a b c
 first_led s header apart a b c = led_lawful s header apart a a b c (λ h. h.0) inl
 
 pub second_led : (s : List ℕ) (header : Section) → Apart s header → (a b c : ℕ)
-    → (led_check (tagged_in s header) b a b c ≡ Pass) ↔ LawfulLed s header b a b c
+    → (led_check (tagged_in s header) b a b c ≡ pass) ↔ LawfulLed s header b a b c
 second_led s header apart a b c = led_lawful s header apart b a b c (λ h. h.1) (λ h. inr (inl h))

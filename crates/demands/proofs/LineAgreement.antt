@@ -6,12 +6,8 @@ use mathlib.Core.Logic.{◌⊎◌, inl, inr, ⊎_map, ◌≢◌}
 use mathlib.Core.List.{List, [], ◌∷◌}
 use mathlib.Core.Bool.{Bool, true, false, not}
 use native.Mathlib.Omega.{arith}
-use Rattle.format.specs.declared.verdict.Verdict.{Verdict}
-use Rattle.format.specs.declared.verdict.Verdict.TheVariants.{Pass, Fail}
-use Rattle.format.specs.Verdicts.{check, both}
+use Rattle.format.specs.Verdicts.{check, both, Verdict, pass, refusal}
 use Rattle.format.proofs.VerdictLaws.{both_fail}
-use Rattle.index.specs.declared.Tagged.{Tagged}
-use Rattle.index.specs.declared.Tagged.TheVariants.{Present, Absent}
 use Rattle.catalogue.specs.declared.Line.{Line}
 use Rattle.catalogue.specs.Catalogue.{is_required, is_as_line}
 use Rattle.catalogue.specs.Lists.{Listed, Above, Rising, KeepsLines}
@@ -19,23 +15,25 @@ use Rattle.catalogue.proofs.ListLaws.{above, rest_rises}
 use Rattle.tags.specs.Tags.{Look}
 use Rattle.lines.specs.Lines.{line_check_as, line_check, lines_of}
 use Rattle.demands.specs.Editions.{Added}
+use Rattle.std.specs.Prelude.{Option, Some, None, Ok, Err}
+use Rattle.format.specs.declared.records.IndexRecord.{IndexRecord}
 
 -- a line's own verdict passes, or is 14 or 15 with its tag
-tried : (ok : Bool) (number place : ℕ) → (check ok number place Pass ≡ Pass) ⊎ (check ok number place Pass ≡ Fail number place)
+tried : (ok : Bool) (number place : ℕ) → (check ok number place pass ≡ pass) ⊎ (check ok number place pass ≡ Err (refusal number place))
 unfolding check
 tried true number place = inl refl
 tried false number place = inr refl
 
 abbrev pub Refuses : Verdict → ℕ → Type 0
-Refuses v tag = (v ≡ Fail 14 tag) ⊎ (v ≡ Fail 15 tag)
+Refuses v tag = (v ≡ Err (refusal 14 tag)) ⊎ (v ≡ Err (refusal 15 tag))
 
 pub refuses_stays : (v w : Verdict) (tag : ℕ) → Refuses v tag → Refuses (both v w) tag
 refuses_stays v w tag (inl h) = inl (both_fail w h)
 refuses_stays v w tag (inr h) = inr (both_fail w h)
 
-refusal : (line : Line) (found : Tagged) → (line_check_as line found ≡ Pass) ⊎ Refuses (line_check_as line found) line.tag
-refusal line Absent = ⊎_map (λ h. h) inl (tried (not (is_required line)) 14 line.tag)
-refusal line (Present e) = ⊎_map (λ h. h) inr (tried (is_as_line line e.ty e.count) 15 line.tag)
+line_refusal : (line : Line) (found : Option IndexRecord) → (line_check_as line found ≡ pass) ⊎ Refuses (line_check_as line found) line.tag
+line_refusal line None = ⊎_map (λ h. h) inl (tried (not (is_required line)) 14 line.tag)
+line_refusal line (Some e) = ⊎_map (λ h. h) inr (tried (is_as_line line e.ty e.count) 15 line.tag)
 
 -- a refusal at a line that is added
 abbrev pub ByLine : List Line → List Line → Verdict → Type 0
@@ -50,9 +48,9 @@ module _ (look : Look) where
       → ((old : Line) → Listed old earlier → line.tag < old.tag)
       → LinesAgree earlier rest → LinesAgree earlier (line ∷ rest)
   unfolding lines_of both
-  add_front earlier line rest below q = go (refusal line (look line.tag)) q
+  add_front earlier line rest below q = go (line_refusal line (look line.tag)) q
     where
-      go : (line_check look line ≡ Pass) ⊎ Refuses (line_check look line) line.tag → LinesAgree earlier rest
+      go : (line_check look line ≡ pass) ⊎ Refuses (line_check look line) line.tag → LinesAgree earlier rest
           → (lines_of look earlier ≡ both (line_check look line) (lines_of look rest))
           ⊎ ByLine earlier (line ∷ rest) (both (line_check look line) (lines_of look rest))
       go (inl h) (inl e) = inl (rw h e)
@@ -73,8 +71,8 @@ module _ (look : Look) where
       go : (v : Verdict) → LinesAgree earlier later
           → (both v (lines_of look earlier) ≡ both v (lines_of look later))
           ⊎ ByLine (line ∷ earlier) (line ∷ later) (both v (lines_of look later))
-      go Pass (inl e) = inl e
-      go Pass (inr (other, d, r)) = inr (other, record { listed = inr d.listed; without = without }, r)
+      go (Ok _) (inl e) = inl e
+      go (Ok _) (inr (other, d, r)) = inr (other, record { listed = inr d.listed; without = without }, r)
         where
           without : (old : Line) → Listed old (line ∷ earlier) → old.tag ≢ other.tag
           without old (inl e) = λ f.
@@ -82,7 +80,7 @@ module _ (look : Look) where
               let m : old.tag ≡ line.tag = ap (λ (l : Line). l.tag) e in
               omega arith
           without old (inr l) = d.without old l
-      go (Fail number place) q = inl refl
+      go (Err e) q = inl refl
 
   pub lines_agree : (earlier later : List Line) → Rising earlier → Rising later → KeepsLines earlier later
       → LinesAgree earlier later

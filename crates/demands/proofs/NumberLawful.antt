@@ -4,7 +4,7 @@
 use Prim.Native.Nat.{ℕ, ◌-◌, ◌≤◌, ◌<◌}
 use mathlib.Core.Path.{◌≡◌, refl, sym, ap, ◌∙◌}
 use mathlib.Core.Logic.Iff
-use mathlib.Core.Logic.{◌↔◌, inl, inr, ⊎_elim}
+use mathlib.Core.Logic.{◌↔◌, ◌≢◌, inl, inr, ⊎_elim}
 use mathlib.Core.List.{List, [], ◌∷◌}
 use mathlib.Core.Bool.{Bool, true, false, ◌||◌, false≢true}
 use lib.Dec.{eqb}
@@ -15,14 +15,13 @@ use Rattle.be.proofs.ByteLaws.{be32_part}
 use Rattle.format.specs.declared.section.Section.{Section}
 use Rattle.format.specs.declared.section.Structure.TheVariants.{Header}
 use Rattle.format.specs.declared.records.IndexRecord.{IndexRecord}
-use Rattle.format.specs.declared.verdict.Verdict.TheVariants.{Pass}
 use Rattle.format.specs.Places.{in_file}
 use Rattle.entries.specs.Types.{element_size}
 use Rattle.entries.specs.Entries.{record_at}
-use Rattle.index.specs.declared.Found.{Found}
 use Rattle.index.specs.Lookup.{tagged_in, entry_at, found_bytes}
 use Rattle.structure.specs.Structure.{section_at}
 use Rattle.catalogue.specs.declared.Line.{Line}
+use Rattle.catalogue.specs.declared.Status.TheVariants.{Optional, Required}
 use Rattle.catalogue.specs.Catalogue.{signature_lines, header_lines, signature_count, line_count, catalogue, line_at, in_edition}
 use Rattle.catalogue.specs.Lists.{had_line}
 use Rattle.catalogue.proofs.ListLaws.{listed_signature, listed_header}
@@ -35,6 +34,9 @@ use Rattle.demands.specs.Editions.{IsEdition}
 use Rattle.demands.proofs.PassIff.{last_iff, eqb_iff, cond_iff}
 use Rattle.demands.proofs.FoundLawful.{Apart, number_iff, typed_found}
 use Rattle.demands.proofs.StructureLawful.{entry_sound}
+use Rattle.std.specs.Prelude.{Option}
+use Rattle.format.specs.Verdicts.{pass}
+use Rattle.index.specs.declared.Entry.{Entry}
 
 -- the tags of check 18 as the catalogue has them
 abbrev pub OneString : List ℕ → Section → ℕ → Type 0
@@ -71,6 +73,10 @@ has_line_lem tag (first ∷ rest) = go (eqb first.tag tag) refl (has_line_lem ta
       λ (line, l, t). behind.1 (line, ⊎_elim (λ q. absurd (eqb-false first.tag tag e (rw q at t))) (λ m. m) l, t),
     )
 
+-- a line that is required is not optional
+must : Required ≢ Optional
+must q = let z : ◌≡◌ {A = ℕ} 0 1 = cc in absurd (omega arith)
+
 -- by their numbers in the catalogue
 module _ (edition : Edition) (is : IsEdition edition) (s : List ℕ) (signature header : Section)
     (lines : LawfulLines edition s signature header) where
@@ -83,42 +89,42 @@ module _ (edition : Edition) (is : IsEdition edition) (s : List ℕ) (signature 
 
   pub size_there : HasTag s signature 1000
   unfolding line_at catalogue signature_lines header_lines
-  size_there = (in_signature 3 (omega arith) refl).required (omega arith)
+  size_there = (in_signature 3 (omega arith) refl).required must
 
   pub digest_there : DigestLine s signature
   unfolding line_at catalogue signature_lines header_lines
   digest_there =
       let k = in_signature 5 (omega arith) refl in
-      (k.required (omega arith), k.type', k.count (λ e. omega arith))
+      (k.required must, k.type', k.count 16 refl)
 
   pub states_there : HasTag s header 1028
   unfolding line_at catalogue signature_lines header_lines
-  states_there = (in_header 34 (omega arith) (omega arith) refl).required (omega arith)
+  states_there = (in_header 34 (omega arith) (omega arith) refl).required must
 
   pub locales_there : HasTag s header 100
   unfolding line_at catalogue signature_lines header_lines
-  locales_there = (in_header 13 (omega arith) (omega arith) refl).required (omega arith)
+  locales_there = (in_header 13 (omega arith) (omega arith) refl).required must
 
   pub batch_there : HasLine batch_tag edition.header → BatchLine s header
   batch_there (line, l, t) =
       let k = rw (is.batch line l t) at (lines.1 line l) in
-      (k.required (omega arith), k.type')
+      (k.required must, k.type')
 
   pub text_lines : TextLines s header
   unfolding line_at catalogue signature_lines header_lines
   text_lines =
       record {
-        system = let k = in_header 27 (omega arith) (omega arith) refl in (k.type', k.count (λ e. omega arith));
-        pre_install = let k = in_header 57 (omega arith) (omega arith) refl in (k.type', k.count (λ e. omega arith));
-        post_install = let k = in_header 58 (omega arith) (omega arith) refl in (k.type', k.count (λ e. omega arith));
-        pre_remove = let k = in_header 59 (omega arith) (omega arith) refl in (k.type', k.count (λ e. omega arith));
-        post_remove = let k = in_header 60 (omega arith) (omega arith) refl in (k.type', k.count (λ e. omega arith));
+        system = let k = in_header 27 (omega arith) (omega arith) refl in (k.type', k.count 1 refl);
+        pre_install = let k = in_header 57 (omega arith) (omega arith) refl in (k.type', k.count 1 refl);
+        post_install = let k = in_header 58 (omega arith) (omega arith) refl in (k.type', k.count 1 refl);
+        pre_remove = let k = in_header 59 (omega arith) (omega arith) refl in (k.type', k.count 1 refl);
+        post_remove = let k = in_header 60 (omega arith) (omega arith) refl in (k.type', k.count 1 refl);
         directories = (in_header 72 (omega arith) (omega arith) refl).type';
       }
 
 -- 16
 pub size_lawful : (s : List ℕ) (len : ℕ) (signature header : Section) → Apart s signature → HasTag s signature 1000
-    → (size_tag_check s len signature header (tagged_in s signature) ≡ Pass)
+    → (size_tag_check s len signature header (tagged_in s signature) ≡ pass)
     ↔ NumberIs s signature 1000 (len - header.start.0)
 unfolding size_tag_check
 size_lawful s len signature header apart h = simp (last_iff, eqb_iff, number_iff s signature apart 1000) Iff.rfl
@@ -136,7 +142,7 @@ module _ (s : List ℕ) (start : ℕ) (lawful : LawfulStructure Header s start) 
       let sound = entry_sound Header s start lawful i l in
       let size = sound.fixed 4 (ap element_size q) in
       let some = sound.some in
-      ap (λ (f : Found). be32_at (found_bytes s f) 0) (typed_found s header lawful.tags batch_tag 4 i l t q)
+      ap (λ (f : Option Entry). be32_at (found_bytes s f) 0) (typed_found s header lawful.tags batch_tag 4 i l t q)
       ∙ be32_part s entry.at.0 entry.extent (omega arith)
 
   batch_number : (sum : ℕ) → BatchLine s (section_at s start)
@@ -147,7 +153,7 @@ module _ (s : List ℕ) (start : ℕ) (lawful : LawfulStructure Header s start) 
   )
 
   pub batch_lawful : (edition : Edition) (sum : ℕ) → (HasLine batch_tag edition.header → BatchLine s (section_at s start))
-      → (sum_check edition s (section_at s start) sum ≡ Pass)
+      → (sum_check edition s (section_at s start) sum ≡ pass)
       ↔ (HasLine batch_tag edition.header → NumberIs s (section_at s start) batch_tag sum)
   unfolding sum_check
   batch_lawful edition sum led =

@@ -7,7 +7,6 @@ use lib.ListN.{length}
 use native.Mathlib.Omega.{arith}
 use borrow.Author.Tests.{leb-true, le-leb}
 use Rattle.format.specs.declared.section.Structure.TheVariants.{Signature, Header}
-use Rattle.format.specs.declared.verdict.Verdict.TheVariants.{Pass}
 use Rattle.format.specs.Sizes.{package_limit, lead_size}
 use Rattle.format.specs.Places.{section_end, align_up}
 use Rattle.format.proofs.VerdictLaws.{passed, inverted, both_pass, both_inverted}
@@ -18,6 +17,7 @@ use Rattle.demands.specs.Lawful.{LawfulLead, LawfulStructure, FirstMultiple, Zer
 use Rattle.demands.specs.Demands.{SoundExactly}
 use Rattle.demands.proofs.LeadLawful.{lead_lawful}
 use Rattle.demands.proofs.StructureLawful.{structure_lawful}
+use Rattle.format.specs.Verdicts.{pass}
 
 -- H is where the header starts
 pub start_first : (place : ℕ) → FirstMultiple 8 place (align_up 8 place)
@@ -31,7 +31,7 @@ start_only place start f =
     omega arith
 
 -- 2 and 3
-size_lawful : (len : ℕ) → (size_check len ≡ Pass) ↔ ((len ≤ package_limit) × (lead_size ≤ len))
+size_lawful : (len : ℕ) → (size_check len ≡ pass) ↔ ((len ≤ package_limit) × (lead_size ≤ len))
 unfolding size_check
 size_lawful len = (
   λ h. let k = inverted _ _ _ _ h in (leb-true _ _ k.0, leb-true _ _ (inverted _ _ _ _ k.1).0),
@@ -40,7 +40,7 @@ size_lawful len = (
 
 -- 28, where there is a header at H
 gap_lawful : (s : List ℕ) (end start : ℕ) → start ≤ length s
-    → (gap_check s (length s) end start ≡ Pass) ↔ ZeroBetween s end start
+    → (gap_check s (length s) end start ≡ pass) ↔ ZeroBetween s end start
 gap_lawful s end start l = (
   λ h i a b. (gap_pass s (length s) end start).0 h i (record { after = a; before = b; there = omega arith }),
   λ h. (gap_pass s (length s) end start).1 (λ i g. h i g.after g.before),
@@ -56,7 +56,7 @@ module _ (s : List ℕ) where
   abbrev H : ℕ
   H = header_start (signature_at s)
 
-  pub parts_lawful : (sound_check s ≡ Pass) ↔ Parts H
+  pub parts_lawful : (sound_check s ≡ pass) ↔ Parts H
   unfolding package_check structures_check
   parts_lawful = (
     λ h.

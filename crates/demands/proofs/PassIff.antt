@@ -9,27 +9,25 @@ use lib.Dec.{eqb, leb, ltb}
 use borrow.Author.Tests.{leb-true, le-leb, ltb-true, lt-ltb, eqb-true, eqb-false, eq-eqb}
 use Rattle.be.specs.Bytes.{same_bytes}
 use Rattle.be.proofs.SameLaws.{same_eq, same_refl}
-use Rattle.format.specs.declared.verdict.Verdict.{Verdict}
-use Rattle.format.specs.declared.verdict.Verdict.TheVariants.{Pass}
-use Rattle.format.specs.Verdicts.{check, both}
+use Rattle.format.specs.Verdicts.{check, both, Verdict, pass}
 use Rattle.format.proofs.VerdictLaws.{inverted, both_inverted}
 
 pub check_iff : (ok : Bool) (number place : ℕ) (rest : Verdict)
-    → (check ok number place rest ≡ Pass) ↔ ((ok ≡ true) × (rest ≡ Pass))
+    → (check ok number place rest ≡ pass) ↔ ((ok ≡ true) × (rest ≡ pass))
 unfolding check
 check_iff ok number place rest = (inverted ok number place rest, λ h. rw h.0 h.1)
 
-pub last_iff : (ok : Bool) (number place : ℕ) → (check ok number place Pass ≡ Pass) ↔ (ok ≡ true)
+pub last_iff : (ok : Bool) (number place : ℕ) → (check ok number place pass ≡ pass) ↔ (ok ≡ true)
 unfolding check
-last_iff ok number place = (λ h. (inverted ok number place Pass h).0, λ h. rw h)
+last_iff ok number place = (λ h. (inverted ok number place pass h).0, λ h. rw h)
 
-pub both_iff : (v rest : Verdict) → (both v rest ≡ Pass) ↔ ((v ≡ Pass) × (rest ≡ Pass))
+pub both_iff : (v rest : Verdict) → (both v rest ≡ pass) ↔ ((v ≡ pass) × (rest ≡ pass))
 unfolding both
 both_iff v rest = (both_inverted v rest, λ h. rw h.0 h.1)
 
 -- the first part is as one rule says; where that holds, the rest is as another says
-pub then_iff : (v rest : Verdict) {A B : Type 0} → (v ≡ Pass) ↔ A → (A → (rest ≡ Pass) ↔ B)
-    → (both v rest ≡ Pass) ↔ (A × B)
+pub then_iff : (v rest : Verdict) {A B : Type 0} → (v ≡ pass) ↔ A → (A → (rest ≡ pass) ↔ B)
+    → (both v rest ≡ pass) ↔ (A × B)
 then_iff v rest f g =
     simp both_iff
     (λ h. let a = f.0 h.0 in (a, (g a).0 h.1), λ h. (f.1 h.0, (g h.0).1 h.1))

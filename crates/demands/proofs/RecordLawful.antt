@@ -8,14 +8,13 @@ use lib.Dec.{eqb, leb}
 use native.Mathlib.Omega.{arith}
 use native.Mathlib.Nat.{eq-or-lt_of_le}
 use borrow.Author.Tests.{eqb-true, eqb-false, eq-eqb, leb-true, leb-false}
-use Rattle.strings.specs.declared.Ending.TheVariants.{Ends, Open}
 use Rattle.strings.specs.Strings.{is_ended}
 use Rattle.format.specs.declared.section.Section.{Section}
 use Rattle.format.specs.declared.section.Structure.{Structure}
 use Rattle.format.specs.declared.records.IndexRecord.{IndexRecord}
 use Rattle.format.specs.Places.{in_file}
 use Rattle.entries.specs.declared.types.ElementSize.{ElementSize}
-use Rattle.entries.specs.declared.types.ElementSize.TheVariants.{Bytes, ToZero, Unlawful}
+use Rattle.entries.specs.declared.types.ElementSize.TheVariants.{Bytes, ToZero}
 use Rattle.entries.specs.Types.{element_size, is_lawful}
 use Rattle.entries.specs.Entries.{record_at, type_lawful, count_right, aligned_to, is_aligned}
 use Rattle.entries.specs.Entries.{end_for, data_end, is_inside}
@@ -23,38 +22,39 @@ use Rattle.repeats.specs.Repeats.{tag_before}
 use Rattle.entries.proofs.RuleLaws.{type_lawful_lem, count_lawful}
 use Rattle.demands.specs.Lawful.{zeros_from, LawfulRecord}
 use Rattle.demands.proofs.StringLawful.{strings_lawful}
+use Rattle.std.specs.Prelude.{Option, Some, None}
 
 module _ (structure : Structure) (s : List ℕ) (section : Section) (e : IndexRecord) where
   -- 11
-  aligned_lawful : (size : ElementSize)
-      → (aligned_to size e.offset.0 ≡ true) ↔ ((n : ℕ) → size ≡ Bytes n → e.offset.0 % n ≡ 0)
-  aligned_lawful (Bytes m) = (
+  aligned_lawful : (size : Option ElementSize)
+      → (aligned_to size e.offset.0 ≡ true) ↔ ((n : ℕ) → size ≡ Some (Bytes n) → e.offset.0 % n ≡ 0)
+  aligned_lawful (Some (Bytes m)) = (
     λ h n q. let w : m ≡ n = cc in rw (← w) (eqb-true _ _ h),
     λ h. eq-eqb _ _ (h m refl),
   )
-  aligned_lawful ToZero = (λ h n q. let z : ◌≡◌ {A = ℕ} 0 1 = cc in absurd (omega arith), λ h. refl)
-  aligned_lawful Unlawful = (λ h n q. let z : ◌≡◌ {A = ℕ} 0 1 = cc in absurd (omega arith), λ h. refl)
+  aligned_lawful (Some ToZero) = (λ h n q. let z : ◌≡◌ {A = ℕ} 0 1 = cc in absurd (omega arith), λ h. refl)
+  aligned_lawful None = (λ h n q. let z : ◌≡◌ {A = ℕ} 0 1 = cc in absurd (omega arith), λ h. refl)
 
   -- 12
-  abbrev Fixed : ElementSize → Type 0
-  Fixed size = (n : ℕ) → size ≡ Bytes n → e.offset.0 + n * e.count ≤ section.hsize
+  abbrev Fixed : Option ElementSize → Type 0
+  Fixed size = (n : ℕ) → size ≡ Some (Bytes n) → e.offset.0 + n * e.count ≤ section.hsize
 
-  abbrev Strings : ElementSize → Type 0
-  Strings size = size ≡ ToZero → e.count ≤ zeros_from s (section.hsize - e.offset.0) (in_file section e.offset)
+  abbrev Strings : Option ElementSize → Type 0
+  Strings size = size ≡ Some ToZero → e.count ≤ zeros_from s (section.hsize - e.offset.0) (in_file section e.offset)
 
-  bytes_end : (size end : ℕ) → (is_ended (cond (leb size section.hsize) (Ends end) Open) ≡ true) ↔ (size ≤ section.hsize)
+  bytes_end : (size end : ℕ) → (is_ended (cond (leb size section.hsize) (Some end) None) ≡ true) ↔ (size ≤ section.hsize)
   bytes_end size end = go (leb size section.hsize) refl
     where
-      go : (b : Bool) → leb size section.hsize ≡ b → (is_ended (cond b (Ends end) Open) ≡ true) ↔ (size ≤ section.hsize)
+      go : (b : Bool) → leb size section.hsize ≡ b → (is_ended (cond b (Some end) None) ≡ true) ↔ (size ≤ section.hsize)
       go true t = (λ h. leb-true _ _ t, λ h. refl)
       go false t = (
         λ h. let z : ◌≡◌ {A = ℕ} 0 1 = cc in absurd (omega arith),
         λ h. let l = leb-false size section.hsize t in absurd (omega arith),
       )
 
-  inside_lawful : (size : ElementSize) → is_lawful size ≡ true
+  inside_lawful : (size : Option ElementSize) → is_lawful size ≡ true
       → (is_ended (end_for size s section e) ≡ true) ↔ (Fixed size × Strings size)
-  inside_lawful (Bytes m) r =
+  inside_lawful (Some (Bytes m)) r =
       let k = bytes_end (e.offset.0 + m * e.count) (in_file section e.offset + m * e.count) in (
         λ h. (
           λ n q. let w : m ≡ n = cc in rw (← w) (k.0 h),
@@ -62,12 +62,12 @@ module _ (structure : Structure) (s : List ℕ) (section : Section) (e : IndexRe
         ),
         λ h. k.1 (h.0 m refl),
       )
-  inside_lawful ToZero r =
+  inside_lawful (Some ToZero) r =
       let k = strings_lawful s (section.hsize - e.offset.0) (in_file section e.offset) e.count in (
         λ h. (λ n q. let z : ◌≡◌ {A = ℕ} 0 1 = cc in absurd (omega arith), λ q. k.0 h),
         λ h. k.1 (h.1 refl),
       )
-  inside_lawful Unlawful r = let z : ◌≡◌ {A = ℕ} 0 1 = cc in absurd (omega arith)
+  inside_lawful None r = let z : ◌≡◌ {A = ℕ} 0 1 = cc in absurd (omega arith)
 
   record_rules : type_lawful e ≡ true → count_right structure e ≡ true → is_aligned e ≡ true → is_inside s section e ≡ true
       → LawfulRecord structure s section e

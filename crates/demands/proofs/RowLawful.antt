@@ -9,11 +9,11 @@ use lib.ListN.{length, get_or, take, drop, length-append, length-drop, get_or-ap
 use lib.Seq.{length-take-le, take-suc, take-add, drop-drop, drop_at, get_or-take, get_or-drop, get_or-append_seam}
 use native.Mathlib.Omega.{arith}
 use borrow.Author.Tests.{eqb-true, eqb-false, leb-true, leb-false}
-use Rattle.strings.specs.declared.Ending.TheVariants.{Ends}
 use Rattle.strings.specs.Strings.{strings_from, in_row}
 use Rattle.strings.proofs.StringLaws.{bound, positive, tight, split}
 use Rattle.strings.proofs.RowLaws.{single_ends, single_text}
 use Rattle.demands.specs.Lawful.{Each, Directory, Directories}
+use Rattle.std.specs.Prelude.{Some}
 
 -- each zero byte of n bytes from a place on stands right behind a slash of theirs
 abbrev pub SlashEnds : List ℕ → ℕ → ℕ → Type 0
@@ -38,7 +38,7 @@ module _ (s : List ℕ) where
       sym (get_or-drop at s i 0) ∙ sym (get_or-take (length text) (drop at s) i 0 l) ∙ ap (λ (x : List ℕ). get_or x i 0) h
 
   -- a single string from a place on, of so many bytes
-  module _ (at n : ℕ) (single : strings_from s n at 1 ≡ Ends (at + n)) (some : 1 ≤ n) (fits : at + n ≤ length s) where
+  module _ (at n : ℕ) (single : strings_from s n at 1 ≡ Some (at + n)) (some : 1 ≤ n) (fits : at + n ≤ length s) where
     last_zero : get_or s (at + (n - 1)) 0 ≡ 0
     last_zero = let v : at + n - 1 ≡ at + (n - 1) = omega arith in rw v at (single_ends s n at (at + n) single)
 
@@ -207,13 +207,13 @@ module _ (s : List ℕ) where
     λ d z l m q. absurd (omega arith),
   )
 
-  none_end : (n at : ℕ) → strings_from s n at 0 ≡ Ends (at + n) → at ≡ at + n
+  none_end : (n at : ℕ) → strings_from s n at 0 ≡ Some (at + n) → at ≡ at + n
   unfolding strings_from
   none_end n at h = cc
 
   -- the first of some strings, then the rest
-  rows_step : (count n at : ℕ) → strings_from s n at (suc count) ≡ Ends (at + n) → at + n ≤ length s
-      → ((n at : ℕ) → strings_from s n at count ≡ Ends (at + n) → at + n ≤ length s
+  rows_step : (count n at : ℕ) → strings_from s n at (suc count) ≡ Some (at + n) → at + n ≤ length s
+      → ((n at : ℕ) → strings_from s n at count ≡ Some (at + n) → at + n ≤ length s
       → SlashEnds s n at ↔ Directories s at count)
       → SlashEnds s n at ↔ Directories s at (suc count)
   rows_step count n at h fits rest =
@@ -224,11 +224,11 @@ module _ (s : List ℕ) where
       let v : at + (m - at) ≡ m = omega arith in
       let w : m - at + (at + n - m) ≡ n = omega arith in
       let u : m + (at + n - m) ≡ at + n = omega arith in
-      let one : strings_from s (m - at) at 1 ≡ Ends (at + (m - at)) = rw v (tight s n at 1 m c.1) in
+      let one : strings_from s (m - at) at 1 ≡ Some (at + (m - at)) = rw v (tight s n at 1 m c.1) in
       let step = row_step at (m - at) one (omega arith) (omega arith) (at + n - m) count in
       rw w at (step (rw v (rest (at + n - m) m (rw u c.2) (omega arith))))
 
-  pub rows_lawful : (count n at : ℕ) → strings_from s n at count ≡ Ends (at + n) → at + n ≤ length s
+  pub rows_lawful : (count n at : ℕ) → strings_from s n at count ≡ Some (at + n) → at + n ≤ length s
       → SlashEnds s n at ↔ Directories s at count
   rows_lawful zero n at h fits = no_rows n at (let e = none_end n at h in omega arith)
   rows_lawful (suc count) n at h fits = rows_step count n at h fits (rows_lawful count)

@@ -3,7 +3,6 @@ use Prim.Native.Nat.{ℕ}
 use mathlib.Core.Path.{◌≡◌, ap, ◌∙◌}
 use mathlib.Core.List.{List, ◌++◌}
 use lib.ListN.{length, drop}
-use Rattle.format.specs.declared.verdict.Verdict.TheVariants.{Pass}
 use Rattle.format.proofs.VerdictLaws.{both_inverted}
 use Rattle.book.specs.declared.dose.Dose.{Dose}
 use Rattle.book.specs.Kinds.{is_known}
@@ -18,10 +17,11 @@ use Rattle.reading.specs.Buffers.{room_in, cells}
 use Rattle.reading.proofs.AnswerLaws.{done, pass_book}
 use Rattle.demands.specs.Rows.{DosesStated}
 use Rattle.demands.proofs.Demand1.{accepted_writes}
+use Rattle.format.specs.Verdicts.{pass}
 
 -- where the reading passes, so do the book's records
-pass_row : (edition : ℕ) (s : List ℕ) (room : ℕ) → reading_check edition s room ≡ Pass
-    → records_check (is_known edition) (book_of s) (places (book_of s)) ≡ Pass
+pass_row : (edition : ℕ) (s : List ℕ) (room : ℕ) → reading_check edition s room ≡ pass
+    → records_check (is_known edition) (book_of s) (places (book_of s)) ≡ pass
 unfolding reading_check book_part
 pass_row edition s room h =
     let k = both_inverted _ _ (pass_book (edition_of edition) s room (both_inverted _ _ h).1) in

@@ -11,7 +11,6 @@ use borrow.Author.Tests.{eq-eqb, le-leb, not-true}
 use Rattle.format.specs.declared.section.Section.{Section}
 use Rattle.format.specs.declared.section.Structure.{Structure}
 use Rattle.format.specs.declared.records.HeaderRecord.{HeaderRecord}
-use Rattle.format.specs.declared.verdict.Verdict.TheVariants.{Pass}
 use Rattle.format.specs.Records.{header_record_at}
 use Rattle.format.proofs.VerdictLaws.{passed, inverted, both_pass}
 use Rattle.format.proofs.FirstLaws.{run_passes}
@@ -23,9 +22,10 @@ use Rattle.structure.proofs.PassLaws.{structure_header, structure_record}
 use Rattle.structure.proofs.SoundLaws.{record_sound}
 use Rattle.demands.specs.Lawful.{LawfulRecord, LawfulStructure}
 use Rattle.demands.proofs.RecordLawful.{record_lawful, tags_lawful}
+use Rattle.format.specs.Verdicts.{pass}
 
 -- 5 to 8
-header_passes : (len start : ℕ) (h : HeaderRecord) → SoundHeader len start h → header_check len start h ≡ Pass
+header_passes : (len start : ℕ) (h : HeaderRecord) → SoundHeader len start h → header_check len start h ≡ pass
 unfolding header_check
 header_passes len start h k =
     sym (passed _ _ (le-leb _ _ k.room)
@@ -38,7 +38,7 @@ header_passes len start h k =
 
 module _ (structure : Structure) (s : List ℕ) (section : Section) where
   -- 9 to 13 of record i
-  entry_lawful : (i : ℕ) → (record_check structure s section i ≡ Pass)
+  entry_lawful : (i : ℕ) → (record_check structure s section i ≡ pass)
       ↔ (LawfulRecord structure s section (record_at s section i)
       × ((j : ℕ) → j < i → (record_at s section j).tag ≢ (record_at s section i).tag))
   unfolding entry_check
@@ -60,7 +60,7 @@ module _ (structure : Structure) (s : List ℕ) (section : Section) where
       )
 
 module _ (structure : Structure) (s : List ℕ) (start : ℕ) where
-  structure_rules : structure_check structure s (length s) start ≡ Pass → LawfulStructure structure s start
+  structure_rules : structure_check structure s (length s) start ≡ pass → LawfulStructure structure s start
   structure_rules h =
       record {
         header = structure_header structure s (length s) start h;
@@ -69,7 +69,7 @@ module _ (structure : Structure) (s : List ℕ) (start : ℕ) where
       }
 
   record_passes : LawfulStructure structure s start → (i : ℕ) → i < (section_at s start).nindex
-      → record_check structure s (section_at s start) i ≡ Pass
+      → record_check structure s (section_at s start) i ≡ pass
   record_passes h i l = (entry_lawful structure s (section_at s start) i).1 (h.records i l, λ j m. h.tags i j l m)
 
   -- the data of a record
@@ -77,11 +77,11 @@ module _ (structure : Structure) (s : List ℕ) (start : ℕ) where
       → SoundEntry s (length s) (entry_at s (section_at s start) i)
   entry_sound h i l = record_sound structure s (length s) (section_at s start) i h.header.fits (record_passes h i l)
 
-  structure_passes : LawfulStructure structure s start → structure_check structure s (length s) start ≡ Pass
+  structure_passes : LawfulStructure structure s start → structure_check structure s (length s) start ≡ pass
   unfolding structure_check
   structure_passes h =
       both_pass (header_passes (length s) start (header_record_at s start) h.header)
       ∙ (run_passes _ _ 0).1 (λ k l m. record_passes h k (omega arith))
 
-  pub structure_lawful : (structure_check structure s (length s) start ≡ Pass) ↔ LawfulStructure structure s start
+  pub structure_lawful : (structure_check structure s (length s) start ≡ pass) ↔ LawfulStructure structure s start
   structure_lawful = (structure_rules, structure_passes)

@@ -12,17 +12,14 @@ use native.Mathlib.Nat.{eq-or-lt_of_le}
 use borrow.Author.Tests.{eq-eqb}
 use Rattle.be.specs.Numbers.{be32_at}
 use Rattle.be.specs.Bytes.{same_bytes}
-use Rattle.strings.specs.declared.Ending.TheVariants.{Ends}
 use Rattle.strings.specs.Strings.{strings_from}
 use Rattle.format.specs.declared.section.Section.{Section}
 use Rattle.format.specs.declared.section.Structure.TheVariants.{Header}
 use Rattle.format.specs.declared.records.IndexRecord.{IndexRecord}
-use Rattle.format.specs.declared.verdict.Verdict.TheVariants.{Pass}
 use Rattle.format.specs.Places.{in_file}
 use Rattle.entries.specs.declared.types.ElementSize.TheVariants.{ToZero}
 use Rattle.entries.specs.Types.{element_size}
 use Rattle.entries.specs.Entries.{record_at}
-use Rattle.index.specs.declared.Tagged.{Tagged}
 use Rattle.index.specs.Lookup.{tagged_in, entry_at, entry_for}
 use Rattle.structure.specs.Structure.{section_at}
 use Rattle.structure.specs.Sound.{SoundEntry}
@@ -35,6 +32,8 @@ use Rattle.demands.proofs.FoundLawful.{Apart, record_iff, found_iff, below_count
 use Rattle.demands.proofs.StructureLawful.{entry_sound}
 use Rattle.demands.proofs.NumberLawful.{OneString, TextLines}
 use Rattle.demands.proofs.RowLawful.{SlashEnds, Whole, text_here, rows_lawful}
+use Rattle.std.specs.Prelude.{Option, Some}
+use Rattle.format.specs.Verdicts.{pass}
 
 below_lawful : (s : List ℕ) (limit n at : ℕ)
     → (all_below s limit n at ≡ true) ↔ ((k : ℕ) → k < n → be32_at s (at + 4 * k) < limit)
@@ -100,11 +99,11 @@ module _ (s : List ℕ) where
         λ h z l m q. let b = h z l m q in (λ e. absurd (omega arith), λ k. b.1),
       )
 
-six_strings : element_size 6 ≡ ToZero
+six_strings : element_size 6 ≡ Some ToZero
 unfolding element_size
 six_strings = refl
 
-eight_strings : element_size 8 ≡ ToZero
+eight_strings : element_size 8 ≡ Some ToZero
 unfolding element_size
 eight_strings = refl
 
@@ -138,15 +137,15 @@ module _ (s : List ℕ) (start : ℕ) (lawful : LawfulStructure Header s start) 
     sound : SoundEntry s (length s) (entry_at s header i)
     sound = entry_sound Header s start lawful i l
 
-    rows : (ty : ℕ) → element_size ty ≡ ToZero → (record_at s header i).ty ≡ ty
-        → strings_from s extent at (record_at s header i).count ≡ Ends (at + extent)
+    rows : (ty : ℕ) → element_size ty ≡ Some ToZero → (record_at s header i).ty ≡ ty
+        → strings_from s extent at (record_at s header i).count ≡ Some (at + extent)
     rows ty p q = sound.strings (ap element_size q ∙ p)
 
     text_at : (text : List ℕ) → Whole text → (record_at s header i).ty ≡ 6 → (record_at s header i).count ≡ 1
         → (same_bytes (take extent (drop at s)) (text ++ 0 ∷ []) ≡ true)
         ↔ (take (length (text ++ 0 ∷ [])) (drop at s) ≡ text ++ 0 ∷ [])
     text_at text w p q =
-        let one = subst (λ (n : ℕ). strings_from s extent at n ≡ Ends (at + extent)) q (rows 6 six_strings p) in
+        let one = subst (λ (n : ℕ). strings_from s extent at n ≡ Some (at + extent)) q (rows 6 six_strings p) in
         Iff.trans (same_iff _ (text ++ 0 ∷ [])) (text_here s at extent one sound.bytes sound.inside text w)
 
     slashes_at : (record_at s header i).ty ≡ 8
@@ -159,7 +158,7 @@ module _ (s : List ℕ) (start : ℕ) (lawful : LawfulStructure Header s start) 
       → (text_is s header (tagged_in s header) (text ++ 0 ∷ []) tag ≡ true) ↔ DataIs s header tag (text ++ 0 ∷ [])
   text_lawful text w tag one =
       record_iff s header apart tag
-      (λ (t : Tagged). found_text s (text ++ 0 ∷ []) (entry_for s header t) ≡ true)
+      (λ (t : Option IndexRecord). found_text s (text ++ 0 ∷ []) (entry_for s header t) ≡ true)
       (λ (e : IndexRecord). take (length (text ++ 0 ∷ [])) (drop (in_file header e.offset) s) ≡ text ++ 0 ∷ [])
       (λ i l t. text_at i l text (whole text w) (one.0 i l t) (one.1 i l t)) (inl refl)
 
@@ -177,7 +176,7 @@ module _ (s : List ℕ) (start : ℕ) (lawful : LawfulStructure Header s start) 
       → (directories_end s header (tagged_in s header) ≡ true)
       ↔ WhereTagged s header 1118 (λ (e : IndexRecord). Directories s (in_file header e.offset) e.count)
   ends_lawful typed =
-      record_iff s header apart 1118 (λ (t : Tagged). found_slashes s (entry_for s header t) ≡ true)
+      record_iff s header apart 1118 (λ (t : Option IndexRecord). found_slashes s (entry_for s header t) ≡ true)
       (λ (e : IndexRecord). Directories s (in_file header e.offset) e.count)
       (λ i l t. slashes_at i l (typed i l t)) (inl refl)
 
@@ -187,14 +186,14 @@ module _ (s : List ℕ) (start : ℕ) (lawful : LawfulStructure Header s start) 
       → WhereTagged s header 1118 (λ (d : IndexRecord). be32_at s (in_file header e.offset + 4 * k) < d.count))
   indexes_lawful led =
       found_iff s header apart 1116
-      (λ (t : Tagged). found_below s (count_in (tagged_in s header) 1118) (entry_for s header t) ≡ true)
+      (λ (t : Option IndexRecord). found_below s (count_in (tagged_in s header) 1118) (entry_for s header t) ≡ true)
       (λ (e : IndexRecord). (k : ℕ) → k < e.count
       → WhereTagged s header 1118 (λ (d : IndexRecord). be32_at s (in_file header e.offset + 4 * k) < d.count))
       (λ e h. simp (below_lawful, below_count_iff s header apart 1118, led h) Iff.rfl) (inl refl)
 
   -- 1118 is present where 1116 is
   pub texts_lawful : TextLines s header → (HasTag s header 1116 → HasTag s header 1118)
-      → (texts_check s header (tagged_in s header) ≡ Pass) ↔ LawfulTexts s header
+      → (texts_check s header (tagged_in s header) ≡ pass) ↔ LawfulTexts s header
   unfolding texts_check
   texts_lawful typed led =
       let system = linux_lawful 1021 typed.system in

@@ -1,8 +1,5 @@
 -- The letter's demands, as statements over the reading. Each is proved in proofs/ under its name in small letters.
-use Rattle.std.specs.Prelude.{ℕ, ◌≤◌, ◌<◌, ◌≡◌, ◌⊎◌, ◌↔◌, ◌≢◌, List, [], ◌++◌, length, drop}
-use Rattle.format.specs.declared.verdict.Verdict.TheVariants.{Pass}
-use Rattle.format.specs.declared.verdict.Answer.{Answer}
-use Rattle.format.specs.declared.verdict.Answer.TheVariants.{Done, Refused}
+use Rattle.std.specs.Prelude.{ℕ, ◌≤◌, ◌<◌, ◌≡◌, ◌⊎◌, ◌↔◌, ◌≢◌, List, [], ◌++◌, length, drop, Ok, Err}
 use Rattle.entries.specs.Entries.{record_at}
 use Rattle.package.specs.Package.{sound_check, structure_of}
 use Rattle.lookups.specs.Lookup.{find_bytes, find_answer}
@@ -16,13 +13,14 @@ use Rattle.reading.specs.Reading.{book_of, needed, checks_at, read_answer}
 use Rattle.reading.specs.Buffers.{Form, Numbers, Bytes, room_in, cells, left_in, ReadInto}
 use Rattle.demands.specs.Lawful.{SoundPackage, LawfulPackage}
 use Rattle.demands.specs.Editions.{IsEdition, First, NoneLacks, lacking_in}
+use Rattle.format.specs.Verdicts.{Answer, pass, refusal}
 
 -- Demand 1: "A refused reading changes no number of the dose buffer; an accepted one writes its doses at the front and nothing
 -- behind them." (`read_answer` is the number and place of the first check that fails, in document 01's order.)
 abbrev pub RefusedKeeps : Type 0
 RefusedKeeps =
     (form : Form) (edition : ℕ) (s before : List ℕ) (number place : ℕ)
-    → read_answer edition s (room_in form before) ≡ Refused number place → left_in form edition s before ≡ before
+    → read_answer edition s (room_in form before) ≡ Err (refusal number place) → left_in form edition s before ≡ before
 
 -- the doses of a book as they stand in a buffer
 abbrev pub dose_cells : Form → List ℕ → List ℕ
@@ -30,7 +28,7 @@ dose_cells form book = cells form (numbers_of (doses book))
 
 abbrev pub AcceptedWrites : Type 0
 AcceptedWrites =
-    (form : Form) (edition : ℕ) (s before : List ℕ) (count : ℕ) → read_answer edition s (room_in form before) ≡ Done count
+    (form : Form) (edition : ℕ) (s before : List ℕ) (count : ℕ) → read_answer edition s (room_in form before) ≡ Ok count
     → (count ≡ length (doses (book_of s)))
     × (left_in form edition s before ≡ dose_cells form (book_of s) ++ drop (length (dose_cells form (book_of s))) before)
 
@@ -39,18 +37,18 @@ AcceptedWrites =
 abbrev pub Demand2 : Type 0
 Demand2 =
     (form : Form) (edition : ℕ) (s before : List ℕ) → 1 ≤ edition → edition ≤ last_edition
-    → (read_answer edition s (room_in form before) ≡ Done (length (doses (book_of s))))
+    → (read_answer edition s (room_in form before) ≡ Ok (length (doses (book_of s))))
     ↔ (LawfulPackage (edition_of edition) s × (needed (kinds_of edition) (book_of s) ≤ room_in form before))
 
 -- and of any edition (request 7) whose bodies come to kind mod 16 bytes
 abbrev pub AnyEdition : Type 0
 AnyEdition =
     (edition : Edition) → IsEdition edition → SizedKinds edition.kinds → (s : List ℕ) (room : ℕ)
-    → (checks_at edition s room ≡ Pass) ↔ (LawfulPackage edition s × (needed edition.kinds (book_of s) ≤ room))
+    → (checks_at edition s room ≡ pass) ↔ (LawfulPackage edition s × (needed edition.kinds (book_of s) ≤ room))
 
 -- "Where size, lead and structures are sound": exactly where checks 2 to 13 and 28 pass,
 abbrev pub SoundExactly : Type 0
-SoundExactly = (s : List ℕ) → (sound_check s ≡ Pass) ↔ SoundPackage s
+SoundExactly = (s : List ℕ) → (sound_check s ≡ pass) ↔ SoundPackage s
 
 -- "a look-up finds data exactly when a record has that tag and that type,"
 abbrev pub LookupFinds : Type 0
@@ -67,24 +65,24 @@ LookupHolds =
 
 -- a refusal that the batch weight explains: "14, 15 or 23, and its place is the batch-weight tag 20002"
 abbrev pub ByBatch : Answer → Type 0
-ByBatch answer = (answer ≡ Refused 14 batch_tag) ⊎ (answer ≡ Refused 15 batch_tag) ⊎ (answer ≡ Refused 23 batch_tag)
+ByBatch answer = (answer ≡ Err (refusal 14 batch_tag)) ⊎ (answer ≡ Err (refusal 15 batch_tag)) ⊎ (answer ≡ Err (refusal 23 batch_tag))
 
 -- Demand 3 of two readings of one package, at an earlier edition and at a later, by their numbers, into buffers of their own
 -- that held the same numbers beforehand: what the two answer, and what they leave in the buffers
 pub record PairAgrees (earlier later : ℕ) (s : List ℕ) (first second : Answer) (after after' : List ℕ) : Type 0 where
   -- if the later accepts, the earlier refuses exactly when the book holds a weighed kind that it lacks, with number 20 and
   -- the place of the first such record
-  pub accepted_lacks : (count place : ℕ) → second ≡ Done count → lacking_in (edition_of earlier) (book_of s) ≡ First place
-      → first ≡ Refused 20 place
+  pub accepted_lacks : (count place : ℕ) → second ≡ Ok count → lacking_in (edition_of earlier) (book_of s) ≡ First place
+      → first ≡ Err (refusal 20 place)
   -- if the book holds none, the earlier accepts with the same dose count and doses, and the two buffers end equal
-  pub accepted_both : (count : ℕ) → second ≡ Done count → lacking_in (edition_of earlier) (book_of s) ≡ NoneLacks
-      → (first ≡ Done count) × (after ≡ after')
+  pub accepted_both : (count : ℕ) → second ≡ Ok count → lacking_in (edition_of earlier) (book_of s) ≡ NoneLacks
+      → (first ≡ Ok count) × (after ≡ after')
   -- if the earlier accepts and the later refuses, the earlier is edition 1, the refusal is 14, 15 or 23, and its place is 20002
-  pub later_refuses : (count number place : ℕ) → first ≡ Done count → second ≡ Refused number place
+  pub later_refuses : (count number place : ℕ) → first ≡ Ok count → second ≡ Err (refusal number place)
       → (earlier ≡ 1) × ByBatch second
   -- if both refuse, number and place agree, unless the earlier gives 20, or the earlier is edition 1 and the later gives 14,
   -- 15 or 23 with that tag
-  pub both_refuse : (number place number' place' : ℕ) → first ≡ Refused number place → second ≡ Refused number' place'
+  pub both_refuse : (number place number' place' : ℕ) → first ≡ Err (refusal number place) → second ≡ Err (refusal number' place')
       → (first ≡ second) ⊎ (number ≡ 20) ⊎ ((earlier ≡ 1) × ByBatch second)
 
 -- for every earlier and later edition

@@ -1,10 +1,9 @@
 -- Request 7: demand 3 for any catalogue and set of kinds that extends another, over the reading of such editions. Proved in
 -- proofs/ as editions_agree; editions 1 to 3 are instances (editions_lawful, editions_extend, third_edition, editions_run).
-use Rattle.std.specs.Prelude.{ℕ, ◌≤◌, ◌≡◌, ◌⊎◌, ◌≢◌, List, [], ◌∷◌, Bool, cond, not, ◌&&◌}
-use Rattle.format.specs.declared.verdict.Answer.{Answer}
-use Rattle.format.specs.declared.verdict.Answer.TheVariants.{Done, Refused}
+use Rattle.std.specs.Prelude.{ℕ, ◌≤◌, ◌≡◌, ◌⊎◌, ◌≢◌, List, [], ◌∷◌, Bool, cond, not, ◌&&◌, Some, Ok, Err}
 use Rattle.catalogue.specs.declared.Line.{Line}
-use Rattle.catalogue.specs.Words.{int32, required}
+use Rattle.catalogue.specs.declared.Status.TheVariants.{Required}
+use Rattle.catalogue.specs.Words.{int32}
 use Rattle.catalogue.specs.Lists.{Listed, Rising, KeepsLines}
 use Rattle.book.specs.Kinds.{is_weighed, Part, Oxide, Milligrams, Lot, Unknown, Holds, knows, kinds_of, last_edition}
 use Rattle.book.specs.Book.{kind_at, places}
@@ -12,6 +11,7 @@ use Rattle.book.specs.KindTheorems.{KeepsKinds}
 use Rattle.reading.specs.Editions.{Edition, edition_of, batch_tag}
 use Rattle.reading.specs.Reading.{book_of, answer_at, read_answer}
 use Rattle.reading.specs.Buffers.{Form, room_in, left_at, left_in}
+use Rattle.format.specs.Verdicts.{Answer, refusal}
 
 -- "the later keeps the earlier's unchanged": its lines, part by part, and its kinds, each with its body
 pub record Extends (earlier later : Edition) : Type 0 where
@@ -25,7 +25,7 @@ BeginsDose parts = (rest : List Part) × (parts ≡ Oxide ∷ Milligrams ∷ res
 
 -- the line of the batch weight: int32, count 1, required
 abbrev pub batch_line : Line
-batch_line = record { tag = batch_tag; ty = int32; count = 1; status = required }
+batch_line = record { tag = batch_tag; ty = int32; count = Some 1; status = Required }
 
 -- an edition: any catalogue and set of kinds
 pub record IsEdition (edition : Edition) : Type 0 where
@@ -67,26 +67,26 @@ AddsLine earlier later line =
 -- a refusal at "that tag": for 14 and 15 any tag whose line the later edition adds, for 23 20002 where its line is added
 abbrev pub ByAdded : Edition → Edition → Answer → Type 0
 ByAdded earlier later answer =
-    ((line : Line) × AddsLine earlier later line × ((answer ≡ Refused 14 line.tag) ⊎ (answer ≡ Refused 15 line.tag)))
-    ⊎ (Added earlier.header later.header batch_line × (answer ≡ Refused 23 batch_tag))
+    ((line : Line) × AddsLine earlier later line × ((answer ≡ Err (refusal 14 line.tag)) ⊎ (answer ≡ Err (refusal 15 line.tag))))
+    ⊎ (Added earlier.header later.header batch_line × (answer ≡ Err (refusal 23 batch_tag)))
 
 -- Demand 3 of two readings of one package, at an earlier and at a later edition, into buffers of their own that held the same
 -- numbers beforehand: what the two answer, and what they leave in the buffers
 pub record Agree (earlier later : Edition) (s : List ℕ) (first second : Answer) (after after' : List ℕ) : Type 0 where
   -- if the later accepts, the earlier refuses exactly when the book holds a weighed kind that it lacks, with number 20 and
   -- the place of the first such record
-  pub accepted_lacks : (count place : ℕ) → second ≡ Done count → lacking_in earlier (book_of s) ≡ First place
-      → first ≡ Refused 20 place
+  pub accepted_lacks : (count place : ℕ) → second ≡ Ok count → lacking_in earlier (book_of s) ≡ First place
+      → first ≡ Err (refusal 20 place)
   -- if the book holds none, the earlier accepts with the same dose count and doses, and the two buffers end equal
-  pub accepted_both : (count : ℕ) → second ≡ Done count → lacking_in earlier (book_of s) ≡ NoneLacks
-      → (first ≡ Done count) × (after ≡ after')
+  pub accepted_both : (count : ℕ) → second ≡ Ok count → lacking_in earlier (book_of s) ≡ NoneLacks
+      → (first ≡ Ok count) × (after ≡ after')
   -- if the earlier accepts and the later refuses, the refusal is 14, 15 or 23 at that tag
-  pub later_refuses : (count number place : ℕ) → first ≡ Done count → second ≡ Refused number place
+  pub later_refuses : (count number place : ℕ) → first ≡ Ok count → second ≡ Err (refusal number place)
       → ByAdded earlier later second
   -- where no line is added that can't occur
-  pub none_added : ((line : Line) → AddsLine earlier later line → ⊥) → (count : ℕ) → first ≡ Done count → second ≡ Done count
+  pub none_added : ((line : Line) → AddsLine earlier later line → ⊥) → (count : ℕ) → first ≡ Ok count → second ≡ Ok count
   -- if both refuse, number and place agree, unless the earlier gives 20, or the later gives 14, 15 or 23 at that tag
-  pub both_refuse : (number place number' place' : ℕ) → first ≡ Refused number place → second ≡ Refused number' place'
+  pub both_refuse : (number place number' place' : ℕ) → first ≡ Err (refusal number place) → second ≡ Err (refusal number' place')
       → (first ≡ second) ⊎ (number ≡ 20) ⊎ ByAdded earlier later second
 
 -- the theorem: of any package and any buffer, in either form

@@ -1,6 +1,6 @@
 -- What document 01, as requests 2, 3, 5 and 7 amend it, says a right package is, section by section: no order and no numbers of
 -- checks.
-use Rattle.std.specs.Prelude.{ℕ, zero, suc, ◌+◌, ◌-◌, ◌*◌, ◌%◌, ◌≤◌, ◌<◌, ◌≡◌, ◌⊎◌, ◌≢◌, List, ◌∷◌, [], ◌++◌, Bool, cond, length, get_or, take, drop, eqb}
+use Rattle.std.specs.Prelude.{ℕ, zero, suc, ◌+◌, ◌-◌, ◌*◌, ◌%◌, ◌≤◌, ◌<◌, ◌≡◌, ◌⊎◌, ◌≢◌, List, ◌∷◌, [], ◌++◌, Bool, cond, length, get_or, take, drop, eqb, Some}
 use Rattle.be.specs.Numbers.{be16_at, be32_at}
 use Rattle.strings.specs.Strings.{in_row}
 use Rattle.format.specs.declared.section.Section.{Section}
@@ -16,6 +16,7 @@ use Rattle.entries.specs.Entries.{record_at}
 use Rattle.structure.specs.Structure.{section_at}
 use Rattle.structure.specs.Sound.{SoundHeader}
 use Rattle.catalogue.specs.declared.Line.{Line}
+use Rattle.catalogue.specs.declared.Status.TheVariants.{Optional}
 use Rattle.catalogue.specs.Lists.{Listed}
 use Rattle.files.specs.Files.{file_tags}
 use Rattle.texts.specs.Texts.{linux, bin_sh}
@@ -51,11 +52,11 @@ pub record LawfulRecord (structure : Structure) (s : List ℕ) (section : Sectio
   pub single : e.ty ≡ 6 → e.count ≡ 1
   pub translated : structure ≡ Signature → e.ty ≡ 9 → e.count ≡ 1
   -- offset is a multiple of the alignment, which is the element size
-  pub aligned : (n : ℕ) → element_size e.ty ≡ Bytes n → e.offset.0 % n ≡ 0
+  pub aligned : (n : ℕ) → element_size e.ty ≡ Some (Bytes n) → e.offset.0 % n ≡ 0
   -- data of a fixed size is size × count bytes from offset and ends at or before hsize
-  pub fixed : (n : ℕ) → element_size e.ty ≡ Bytes n → e.offset.0 + n * e.count ≤ section.hsize
+  pub fixed : (n : ℕ) → element_size e.ty ≡ Some (Bytes n) → e.offset.0 + n * e.count ≤ section.hsize
   -- string data is count strings in a row, each ended by a zero byte inside the store
-  pub strings : element_size e.ty ≡ ToZero
+  pub strings : element_size e.ty ≡ Some ToZero
       → e.count ≤ zeros_from s (section.hsize - e.offset.0) (in_file section e.offset)
 
 -- a structure in the package: its header record, its records, and within one structure no tag occurs twice
@@ -81,11 +82,11 @@ HasCount s section tag n = WhereTagged s section tag (λ (e : IndexRecord). e.co
 abbrev pub SameCount : List ℕ → Section → ℕ → ℕ → Type 0
 SameCount s section tag other = WhereTagged s section other (λ (e : IndexRecord). HasCount s section tag e.count)
 
--- "Catalogue": "Required" must be present; a blank count (0) is any, a printed one is exact
+-- "Catalogue": "Required" must be present; a blank count (None) is any, a printed one is exact
 pub record LawfulLine (s : List ℕ) (section : Section) (line : Line) : Type 0 where
-  pub required : 1 ≤ line.status → HasTag s section line.tag
+  pub required : line.status ≢ Optional → HasTag s section line.tag
   pub type' : WhereTagged s section line.tag (λ (e : IndexRecord). e.ty ≡ line.ty)
-  pub count : line.count ≢ 0 → HasCount s section line.tag line.count
+  pub count : (n : ℕ) → line.count ≡ Some n → HasCount s section line.tag n
 
 -- every line that an edition has for a structure
 abbrev pub LinesIn : List ℕ → Section → List Line → Type 0

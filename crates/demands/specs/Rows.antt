@@ -1,6 +1,5 @@
 -- Demand 2, the doses: "The doses are those the book's records state, in order." Proved in proofs/ as doses_stated.
-use Rattle.std.specs.Prelude.{ℕ, ◌≡◌, List, ◌++◌, length, drop}
-use Rattle.format.specs.declared.verdict.Answer.TheVariants.{Done}
+use Rattle.std.specs.Prelude.{ℕ, ◌≡◌, List, ◌++◌, length, drop, Ok}
 use Rattle.book.specs.Rows.{BookRecord, IsRow, stated_doses}
 use Rattle.buffer.specs.Buffer.{numbers_of}
 use Rattle.reading.specs.Reading.{book_of, read_answer}
@@ -20,5 +19,5 @@ pub record StatedBy (form : Form) (book before : List ℕ) (count : ℕ) (after 
 
 abbrev pub DosesStated : Type 0
 DosesStated =
-    (form : Form) (edition : ℕ) (s before : List ℕ) (count : ℕ) → read_answer edition s (room_in form before) ≡ Done count
+    (form : Form) (edition : ℕ) (s before : List ℕ) (count : ℕ) → read_answer edition s (room_in form before) ≡ Ok count
     → (row : List BookRecord) × StatedBy form (book_of s) before count (left_in form edition s before) row

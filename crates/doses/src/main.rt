@@ -6,7 +6,6 @@
 ghost use Rattle.std.specs.Prelude.{◌≤◌, length};
 
 use book::Dose;
-use format::Answer;
 use places::FileOffset;
 use std::io;
 
@@ -16,6 +15,7 @@ const ROOM: usize = FileOffset::LIMIT + 1;
 const NUMBERS: usize = Dose::NUMBERS as usize;
 
 // Writes a dose: `OXIDE MILLIGRAMS LOT`.
+#[tactic(auto, using(text::proofs::LineLaws::within))]
 fn put_dose(rt: &impl Print, dose: &[u32]) -> io::Result<()> {
     let mut line = [0u8; 33];
     let n = text::lines::line(dose, &mut line);
@@ -24,11 +24,8 @@ fn put_dose(rt: &impl Print, dose: &[u32]) -> io::Result<()> {
 
 // Writes a line for each dose of a run of numbers, oxide, milligrams and lot.
 fn put_doses(rt: &impl Print, numbers: &[u32]) -> io::Result<()> {
-    let mut i = 0;
-    while i + NUMBERS <= numbers.len() {
-        let next = i + NUMBERS;
-        put_dose(rt, &numbers[i..next])?;
-        i = next;
+    for dose in numbers.chunks_exact(NUMBERS) {
+        put_dose(rt, dose)?;
     }
     Ok(())
 }
@@ -38,11 +35,8 @@ fn total(numbers: &[u32]) -> u64
     requires { length numbers.now ≤ 8192 }
 {
     let mut sum: u64 = 0;
-    let mut i = 0;
-    while i + NUMBERS <= numbers.len() {
-        let milligrams = i + 1;
-        sum += numbers[milligrams] as u64;
-        i += NUMBERS;
+    for dose in numbers.chunks_exact(NUMBERS) {
+        sum += dose[1] as u64;
     }
     sum
 }
@@ -51,44 +45,36 @@ fn total(numbers: &[u32]) -> u64
 fn put_book(rt: &impl Print, numbers: &[u32]) -> io::Result<()>
     requires { length numbers.now ≤ 8192 }
 {
-    rt.write_all(b"edition 3\n")?;
+    println!(rt; "edition 3")?;
     put_doses(rt, numbers)?;
     let sum = total(numbers);
     println!(rt; "total {sum}")
 }
 
-// Writes number and place of a refusal.
-fn put_refused(rt: &impl Print, number: u32, place: u32) -> io::Result<()> {
-    println!(rt; "refused {number} at {place}")
-}
-
 // Reads a package at edition 3, with room for any book's doses, and writes what it holds.
 fn put_package(rt: &impl Print, pkg: &[u8]) -> io::Result<()> {
     let mut doses = [0u32; 8192];
-    let answer = reading::read(3, pkg, &mut doses);
-    match answer {
-        Answer::Done(count) => {
+    match reading::read(3, pkg, &mut doses) {
+        Ok(count) => {
             let used = NUMBERS * count as usize;
             put_book(rt, &doses[..used])
         }
-        Answer::Refused(number, place) => put_refused(rt, number, place),
+        Err(refusal) => println!(rt; "refused {refusal}"),
     }
 }
 
 // Reads a package from standard input, and writes what it holds.
 fn put_input(rt: &(impl Input + Print)) -> io::Result<()> {
     let mut room = [0u8; ROOM];
-    let got = input::read(&mut rt.reader(), &mut room);
-    if got.failed {
-        return rt.write_all(b"cannot read standard input\n");
+    match input::read(&mut rt.reader(), &mut room) {
+        Ok(count) => put_package(rt, &room[..count]),
+        Err(_) => println!(rt; "cannot read standard input"),
     }
-    let n = got.count;
-    put_package(rt, &room[..n])
 }
 
 fn main(rt: HostRuntime) -> io::Result<()> {
     if 1 < input::arg_count(&rt) {
-        return rt.write_all(b"usage: doses < PACKAGE\n");
+        return println!(rt; "usage: doses < PACKAGE");
     }
     put_input(&rt)
 }

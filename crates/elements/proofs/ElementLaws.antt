@@ -6,25 +6,24 @@ use mathlib.Core.List.{List}
 use lib.ListN.{take, drop}
 use native.Mathlib.Omega.{arith}
 use native.Mathlib.Nat.{mul-add}
-use Rattle.strings.specs.declared.Ending.TheVariants.{Ends}
 use Rattle.strings.specs.Strings.{strings_from}
 use Rattle.strings.proofs.StringLaws.{bound, done}
 use Rattle.be.proofs.ByteLaws.{part_join}
 use Rattle.strings.proofs.RowLaws.{string_at}
 use Rattle.format.specs.Places.{section_end}
 use Rattle.entries.specs.declared.types.ElementSize.{ElementSize}
-use Rattle.entries.specs.declared.types.ElementSize.TheVariants.{Bytes, ToZero, Unlawful}
+use Rattle.entries.specs.declared.types.ElementSize.TheVariants.{Bytes, ToZero}
 use Rattle.index.specs.declared.Entry.{Entry}
 use Rattle.entries.specs.Types.{element_size}
 use Rattle.index.specs.Lookup.{extent_to, entry_at}
 use Rattle.structure.specs.Sound.{SoundEntry}
-use Rattle.lookups.specs.declared.Sought.TheVariants.{Here}
 use Rattle.package.specs.Package.{structure_of}
 use Rattle.lookups.specs.Lookup.{sought, entry_bytes, sought_bytes}
 use Rattle.elements.specs.Elements.{element_of}
 use Rattle.elements.specs.Theorems.{elements_from, ElementsInARow, elements_shown, ElementsShown}
 use Rattle.lookups.proofs.FoundLaws.{found_of_record, found_sound}
 use Rattle.elements.proofs.ElementFound.{element_found}
+use Rattle.std.specs.Prelude.{Option, Some, None, Ok}
 
 -- where element k lies from b k to b (k + 1), the elements from k on are the part up to the last
 module _ (s : List ℕ) (entry : Entry) (b : ℕ → ℕ)
@@ -55,7 +54,7 @@ module _ (s : List ℕ) (entry : Entry) (b : ℕ → ℕ)
       row entry.count 0 (omega arith) ∙ rw (e, p)
 
 -- a fixed size
-module _ (s : List ℕ) (entry : Entry) (n : ℕ) (p : element_size entry.ty ≡ Bytes n) where
+module _ (s : List ℕ) (entry : Entry) (n : ℕ) (p : element_size entry.ty ≡ Some (Bytes n)) where
   pub fixed_starts : (k : ℕ) → (element_of s entry k).at.0 ≡ entry.at.0 + n * k
   unfolding element_of
   fixed_starts k = rw p
@@ -70,8 +69,8 @@ module _ (s : List ℕ) (entry : Entry) (n : ℕ) (p : element_size entry.ty ≡
       (λ k l. omega (arith, mul-add n k 1, fixed_extent k)) (omega arith) (omega arith)
 
 -- strings
-module _ (s : List ℕ) (entry : Entry) (p : element_size entry.ty ≡ ToZero)
-    (h : strings_from s entry.extent entry.at.0 entry.count ≡ Ends (entry.at.0 + entry.extent)) where
+module _ (s : List ℕ) (entry : Entry) (p : element_size entry.ty ≡ Some ToZero)
+    (h : strings_from s entry.extent entry.at.0 entry.count ≡ Some (entry.at.0 + entry.extent)) where
   string_starts : (k : ℕ) → k < entry.count
       → (element_of s entry k).at.0 ≡ extent_to 0 (strings_from s entry.extent entry.at.0 k)
   unfolding element_of
@@ -95,11 +94,11 @@ module _ (s : List ℕ) (entry : Entry) (p : element_size entry.ty ≡ ToZero)
 
 -- every lawful type
 row_of_size : (s : List ℕ) (len : ℕ) (entry : Entry) → SoundEntry s len entry
-    → (size : ElementSize) → element_size entry.ty ≡ size
+    → (size : Option ElementSize) → element_size entry.ty ≡ size
     → elements_from s entry entry.count 0 ≡ entry_bytes s entry
-row_of_size s len entry t (Bytes n) p = fixed_row s entry n p (t.fixed n p)
-row_of_size s len entry t ToZero p = string_row s entry p (t.strings p)
-row_of_size s len entry t Unlawful p =
+row_of_size s len entry t (Some (Bytes n)) p = fixed_row s entry n p (t.fixed n p)
+row_of_size s len entry t (Some ToZero) p = string_row s entry p (t.strings p)
+row_of_size s len entry t None p =
     let q = t.lawful in
     let z : ◌≡◌ {A = ℕ} 0 1 = cc in
     absurd (omega arith)
@@ -110,7 +109,7 @@ elements_in_a_row s which tag ty entry h =
     (element_size entry.ty) refl
 
 -- what element look-ups show of an entry that was found
-module _ (s : List ℕ) (which tag ty : ℕ) (entry : Entry) (h : sought s which tag ty ≡ Here entry) where
+module _ (s : List ℕ) (which tag ty : ℕ) (entry : Entry) (h : sought s which tag ty ≡ Ok entry) where
   shown_row : (n k : ℕ) → n + k ≤ entry.count → elements_shown s which tag ty n k ≡ elements_from s entry n k
   unfolding elements_shown elements_from
   shown_row zero k l = refl

@@ -6,7 +6,6 @@ use mathlib.Core.List.{List, [], ◌∷◌, ◌++◌}
 use lib.ListN.{length, take, drop, length-take, length-drop}
 use lib.Seq.{take-suc, get_or-take, get_or-drop}
 use native.Mathlib.Omega.{arith}
-use Rattle.strings.specs.declared.Ending.TheVariants.{Ends}
 use Rattle.strings.specs.Strings.{strings_from}
 use Rattle.strings.proofs.StringLaws.{bound, positive, tight}
 use Rattle.strings.proofs.RowLaws.{string_at, single_ends, single_text}
@@ -16,9 +15,10 @@ use Rattle.entries.specs.Types.{element_size}
 use Rattle.lookups.specs.Lookup.{entry_bytes}
 use Rattle.elements.specs.Elements.{element_of}
 use Rattle.elements.specs.Theorems.{SingleString}
+use Rattle.std.specs.Prelude.{Some}
 
 -- the bytes of a single string
-module _ (s : List ℕ) (room at e : ℕ) (h : strings_from s room at 1 ≡ Ends e) (fits : e ≤ length s) where
+module _ (s : List ℕ) (room at e : ℕ) (h : strings_from s room at 1 ≡ Some e) (fits : e ≤ length s) where
   text_size : e - at ≡ suc (e - 1 - at)
   text_size = let l = positive s room at 1 e h (omega arith) in omega arith
 
@@ -40,26 +40,26 @@ module _ (s : List ℕ) (room at e : ℕ) (h : strings_from s room at 1 ≡ Ends
             (rw (get_or-take (e - 1 - at) (drop at s) i 0 b, get_or-drop at s i 0) at q);
       }
 
-module _ (s : List ℕ) (entry : Entry) (k : ℕ) (p : element_size entry.ty ≡ ToZero) where
-  string_starts : (m : ℕ) → strings_from s entry.extent entry.at.0 k ≡ Ends m → m ≡ (element_of s entry k).at.0
+module _ (s : List ℕ) (entry : Entry) (k : ℕ) (p : element_size entry.ty ≡ Some ToZero) where
+  string_starts : (m : ℕ) → strings_from s entry.extent entry.at.0 k ≡ Some m → m ≡ (element_of s entry k).at.0
   unfolding element_of
   string_starts m h = rw (p, h)
 
-  string_bytes : (m m' : ℕ) → strings_from s entry.extent entry.at.0 k ≡ Ends m
-      → strings_from s (entry.at.0 + entry.extent - m) m 1 ≡ Ends m'
+  string_bytes : (m m' : ℕ) → strings_from s entry.extent entry.at.0 k ≡ Some m
+      → strings_from s (entry.at.0 + entry.extent - m) m 1 ≡ Some m'
       → take (m' - m) (drop m s) ≡ entry_bytes s (element_of s entry k)
   unfolding element_of
   string_bytes m m' h q = rw (p, h, q)
 
-  string_extent : (m m' : ℕ) → strings_from s entry.extent entry.at.0 k ≡ Ends m
-      → strings_from s (entry.at.0 + entry.extent - m) m 1 ≡ Ends m' → m' - m ≡ (element_of s entry k).extent
+  string_extent : (m m' : ℕ) → strings_from s entry.extent entry.at.0 k ≡ Some m
+      → strings_from s (entry.at.0 + entry.extent - m) m 1 ≡ Some m' → m' - m ≡ (element_of s entry k).extent
   unfolding element_of
   string_extent m m' h q = rw (p, h, q)
 
   module _ (l : k < entry.count)
-      (h : strings_from s entry.extent entry.at.0 entry.count ≡ Ends (entry.at.0 + entry.extent)) where
+      (h : strings_from s entry.extent entry.at.0 entry.count ≡ Some (entry.at.0 + entry.extent)) where
     pub strings_before :
-        strings_from s ((element_of s entry k).at.0 - entry.at.0) entry.at.0 k ≡ Ends (element_of s entry k).at.0
+        strings_from s ((element_of s entry k).at.0 - entry.at.0) entry.at.0 k ≡ Some (element_of s entry k).at.0
     strings_before =
         let r = string_at s entry.extent entry.at.0 k entry.count _ l h in
         rw (← string_starts r.0 r.2) (tight s entry.extent entry.at.0 k r.0 r.2)

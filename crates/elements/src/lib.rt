@@ -1,5 +1,5 @@
 // Look-ups of the elements of an entry: check 26.
-#![tactic(auto)]
+#![tactic(auto, unfolding(crate::specs::Elements::element_of, crate::specs::Elements::sought_element))]
 
 ghost use Rattle.std.specs.Prelude.{◌≡◌, ◌+◌, ◌≤◌};
 ghost use Rattle.strings.specs.Strings.{strings_from};
@@ -8,11 +8,10 @@ ghost use Rattle.elements.specs.Elements.{string_part, element_of, element_in, s
 
 use entries::ElementSize;
 use entries::types::element_size;
-use format::Answer;
+use format::{Answer, Refusal};
 use index::Entry;
-use lookups::{Sought, seek, shown};
+use lookups::{seek, shown};
 use places::FileOffset;
-use strings::Ending;
 
 // String `k` of an entry of strings that lies in a package: it starts where the `k` before it end.
 fn string_part(pkg: &[u8], entry: Entry, k: u32) -> Entry
@@ -23,22 +22,21 @@ fn string_part(pkg: &[u8], entry: Entry, k: u32) -> Entry
     let end = at.behind(entry.extent);
     let run = at.strings_end(pkg, end, k);
     match run {
-        Ending::Ends(_) => {
+        Some(_) => {
             let place = at.behind(index::extent_to(at, run));
             let next = place.strings_end(pkg, end, 1);
             let extent = index::extent_to(place, next);
             Entry {
-                ty: entry.ty,
                 count: 1,
                 at: place,
-                extent: extent,
+                extent,
+                ..entry
             }
         }
-        Ending::Open => Entry {
-            ty: entry.ty,
+        None => Entry {
             count: 1,
-            at: at,
             extent: 0,
+            ..entry
         },
     }
 }
@@ -48,24 +46,18 @@ fn element_of(pkg: &[u8], entry: Entry, k: u32) -> Entry
     requires { entry.at.0 + entry.extent ≤ package_limit }
     ensures { result ≡ element_of pkg.now entry k }
 {
-    let size = element_size(entry.ty);
-    let at = entry.at;
-    match size {
-        ElementSize::Bytes(n) => {
-            let before = n * k as usize;
-            Entry {
-                ty: entry.ty,
-                count: 1,
-                at: at.behind(before),
-                extent: n,
-            }
-        }
-        ElementSize::ToZero => string_part(pkg, entry, k),
-        ElementSize::Unlawful => Entry {
-            ty: entry.ty,
+    match element_size(entry.ty) {
+        Some(ElementSize::Bytes(n)) => Entry {
             count: 1,
-            at: at,
+            at: entry.at.behind(n * k as usize),
+            extent: n,
+            ..entry
+        },
+        Some(ElementSize::ToZero) => string_part(pkg, entry, k),
+        None => Entry {
+            count: 1,
             extent: 0,
+            ..entry
         },
     }
 }
@@ -74,36 +66,27 @@ fn element_of(pkg: &[u8], entry: Entry, k: u32) -> Entry
 pub fn element(pkg: &[u8], entry: Entry, k: u32) -> Entry
     ensures { result ≡ element_in pkg.now entry k }
 {
-    let at = entry.at;
-    let from = at.get();
-    if from <= FileOffset::LIMIT {
-        let room = FileOffset::LIMIT - from;
-        if entry.extent <= room {
-            return element_of(pkg, entry, k);
+    let from = entry.at.get();
+    if from <= FileOffset::LIMIT && entry.extent <= FileOffset::LIMIT - from {
+        element_of(pkg, entry, k)
+    } else {
+        Entry {
+            count: 1,
+            extent: 0,
+            ..entry
         }
-    }
-    Entry {
-        ty: entry.ty,
-        count: 1,
-        at: at,
-        extent: 0,
     }
 }
 
 // Checks 2 to 13, 28, 25 and 26: element `k` of the entry of a structure with the tag and the type.
-fn seek_element(pkg: &[u8], which: u32, tag: u32, ty: u32, k: u32) -> Sought
+fn seek_element(pkg: &[u8], which: u32, tag: u32, ty: u32, k: u32) -> Result<Entry, Refusal>
     ensures { result ≡ sought_element pkg.now which tag ty k }
 {
-    let found = seek(pkg, which, tag, ty);
-    match found {
-        Sought::Refused(number, place) => Sought::Refused(number, place),
-        Sought::Here(entry) => {
-            if k < entry.count {
-                Sought::Here(element_of(pkg, entry, k))
-            } else {
-                Sought::Refused(26, 0)
-            }
-        }
+    let entry = seek(pkg, which, tag, ty)?;
+    if k < entry.count {
+        Ok(element_of(pkg, entry, k))
+    } else {
+        Err(Refusal::new(26, 0))
     }
 }
 
@@ -118,12 +101,6 @@ pub fn find_element(pkg: &[u8], which: u32, tag: u32, ty: u32, k: u32) -> &[u8]
 pub fn find_element_answer(pkg: &[u8], which: u32, tag: u32, ty: u32, k: u32) -> Answer
     ensures { result ≡ find_element_answer pkg.now which tag ty k }
 {
-    let found = seek_element(pkg, which, tag, ty, k);
-    match found {
-        Sought::Here(entry) => {
-            let place = entry.at.get() as u32;
-            Answer::Done(place)
-        }
-        Sought::Refused(number, place) => Answer::Refused(number, place),
-    }
+    let entry = seek_element(pkg, which, tag, ty, k)?;
+    Ok(entry.at.get() as u32)
 }

@@ -1,17 +1,15 @@
 // One index record: checks 9 to 13 in order.
-#![tactic(auto)]
+#![tactic(auto, unfolding(format::specs::Verdicts::both, format::specs::Verdicts::check, crate::specs::Entries::count_right, crate::specs::Entries::data_end, crate::specs::Entries::data_check))]
 
-ghost use Rattle.std.specs.Prelude.{◌≡◌, [], not};
-ghost use Rattle.format.specs.declared.verdict.Verdict.TheVariants.{Pass};
-ghost use Rattle.format.specs.Verdicts.{check, both};
+ghost use Rattle.std.specs.Prelude.{◌≡◌, [], not, Some};
+ghost use Rattle.format.specs.Verdicts.{check, both, pass};
 ghost use Rattle.entries.specs.declared.types.ElementSize.TheVariants.{Bytes, ToZero};
 ghost use Rattle.entries.specs.Types.{element_size};
 ghost use Rattle.entries.specs.Entries.{is_single, count_right, end_for, data_end, data_check};
 
 pub mod types;
 
-use format::{IndexRecord, Section, Structure, Verdict};
-use strings::Ending;
+use format::{IndexRecord, Refusal, Section, Structure, Verdict};
 pub use types::ElementSize;
 use types::element_size;
 
@@ -19,15 +17,9 @@ use types::element_size;
 fn is_single(structure: Structure, ty: u32) -> bool
     ensures { result ≡ is_single structure ty }
 {
-    if ty == 6 {
-        return true;
-    }
-    if ty != 9 {
-        return false;
-    }
     match structure {
-        Structure::Signature => true,
-        Structure::Header => false,
+        Structure::Signature => ty == 6 || ty == 9,
+        Structure::Header => ty == 6,
     }
 }
 
@@ -36,31 +28,31 @@ pub fn count_right(structure: Structure, e: IndexRecord) -> bool
     ensures { result ≡ count_right structure e }
 {
     if is_single(structure, e.ty) {
-        return e.count == 1;
+        e.count == 1
+    } else {
+        1 <= e.count
     }
-    1 <= e.count
 }
 
 // The place in the file behind an entry's data, where that is inside the store (check 12).
-pub fn data_end(s: &[u8], section: Section, e: IndexRecord) -> Ending
+pub fn data_end(s: &[u8], section: Section, e: IndexRecord) -> Option<usize>
     ensures { result ≡ data_end s.now section e }
 {
-    let size = element_size(e.ty);
+    let size = element_size(e.ty)?;
     let from = section.in_file(e.offset);
     match size {
         ElementSize::Bytes(n) => {
             let bytes = n * e.count as usize;
             if e.offset.get() as usize + bytes <= section.hsize as usize {
-                Ending::Ends(from.get() + bytes)
+                Some(from.get() + bytes)
             } else {
-                Ending::Open
+                None
             }
         }
         ElementSize::ToZero => {
             let end = section.end();
             from.strings_end(s, end, e.count)
         }
-        ElementSize::Unlawful => Ending::Open,
     }
 }
 
@@ -72,22 +64,22 @@ fn fixed_check(
     e: IndexRecord,
     n: usize,
 ) -> Verdict
-    requires { Bytes n ≡ element_size e.ty }
-    ensures { result ≡ data_check structure place e (end_for (Bytes n) [] section e) }
+    requires { Some (Bytes n) ≡ element_size e.ty }
+    ensures { result ≡ data_check structure place e (end_for (Some (Bytes n)) [] section e) }
 {
     if !count_right(structure, e) {
-        return Verdict::Fail(10, place);
+        return Err(Refusal::new(10, place));
     }
     let offset = e.offset.get() as usize;
     if offset % n != 0 {
-        return Verdict::Fail(11, place);
+        return Err(Refusal::new(11, place));
     }
     let bytes = n * e.count as usize;
     let end = offset + bytes;
     if (section.hsize as usize) < end {
-        return Verdict::Fail(12, place);
+        return Err(Refusal::new(12, place));
     }
-    Verdict::Pass
+    Ok(())
 }
 
 // The same for an entry of strings.
@@ -98,19 +90,18 @@ fn strings_check(
     place: u32,
     e: IndexRecord,
 ) -> Verdict
-    requires { ToZero ≡ element_size e.ty }
+    requires { Some ToZero ≡ element_size e.ty }
     ensures { result ≡ data_check structure place e (data_end s.now section e) }
 {
     if !count_right(structure, e) {
-        return Verdict::Fail(10, place);
+        return Err(Refusal::new(10, place));
     }
     let from = section.in_file(e.offset);
     let to = section.end();
-    let end = from.strings_end(s, to, e.count);
-    if !strings::ended(end) {
-        return Verdict::Fail(12, place);
+    if from.strings_end(s, to, e.count).is_none() {
+        return Err(Refusal::new(12, place));
     }
-    Verdict::Pass
+    Ok(())
 }
 
 // Checks 9 to 12 for a record that is `e` and starts at `place`.
@@ -123,11 +114,10 @@ fn data_check(
 ) -> Verdict
     ensures { result ≡ data_check structure place e (data_end s.now section e) }
 {
-    let size = element_size(e.ty);
-    match size {
-        ElementSize::Bytes(n) => fixed_check(structure, section, place, e, n),
-        ElementSize::ToZero => strings_check(structure, s, section, place, e),
-        ElementSize::Unlawful => Verdict::Fail(9, place),
+    match element_size(e.ty) {
+        Some(ElementSize::Bytes(n)) => fixed_check(structure, section, place, e, n),
+        Some(ElementSize::ToZero) => strings_check(structure, s, section, place, e),
+        None => Err(Refusal::new(9, place)),
     }
 }
 
@@ -140,14 +130,11 @@ pub fn entry_check(
     e: IndexRecord,
     repeated: bool,
 ) -> Verdict
-    ensures { result ≡ both (data_check structure place e (data_end s.now section e)) (check (not repeated) 13 place Pass) }
+    ensures { result ≡ both (data_check structure place e (data_end s.now section e)) (check (not repeated) 13 place pass) }
 {
-    let v = data_check(structure, s, section, place, e);
-    if let Verdict::Fail(number, at) = v {
-        return Verdict::Fail(number, at);
-    }
+    data_check(structure, s, section, place, e)?;
     if repeated {
-        return Verdict::Fail(13, place);
+        return Err(Refusal::new(13, place));
     }
-    Verdict::Pass
+    Ok(())
 }

@@ -1,39 +1,27 @@
 // The table of types.
 ghost use Rattle.std.specs.Prelude.{◌≡◌};
-ghost use Rattle.entries.specs.Types.{element_size, is_lawful};
+ghost use Rattle.entries.specs.Types.{element_size};
 
-// How far an element of a type reaches.
+// How far an element of a lawful type reaches: so many bytes, or to its zero byte.
 #[derive(Clone, Copy)]
 pub enum ElementSize {
     Bytes(usize),
     ToZero,
-    Unlawful,
 }
 
-// The element size of a type.
-pub fn element_size(ty: u32) -> ElementSize
+// The element size of a type, where that is lawful (check 9).
+pub fn element_size(ty: u32) -> Option<ElementSize>
     ensures { result ≡ element_size ty }
 {
     match ty {
-        1 => ElementSize::Bytes(1),
-        2 => ElementSize::Bytes(1),
-        3 => ElementSize::Bytes(2),
-        4 => ElementSize::Bytes(4),
-        6 => ElementSize::ToZero,
-        7 => ElementSize::Bytes(1),
-        8 => ElementSize::ToZero,
-        9 => ElementSize::ToZero,
-        _ => ElementSize::Unlawful,
-    }
-}
-
-// Whether the type of an element size is lawful (check 9).
-pub fn is_lawful(size: ElementSize) -> bool
-    ensures { result ≡ is_lawful size }
-{
-    match size {
-        ElementSize::Bytes(_) => true,
-        ElementSize::ToZero => true,
-        ElementSize::Unlawful => false,
+        1 => Some(ElementSize::Bytes(1)),
+        2 => Some(ElementSize::Bytes(1)),
+        3 => Some(ElementSize::Bytes(2)),
+        4 => Some(ElementSize::Bytes(4)),
+        6 => Some(ElementSize::ToZero),
+        7 => Some(ElementSize::Bytes(1)),
+        8 => Some(ElementSize::ToZero),
+        9 => Some(ElementSize::ToZero),
+        _ => None,
     }
 }

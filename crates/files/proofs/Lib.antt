@@ -1,2 +1,2 @@
+pub mod LadderLaws
 pub mod FilesLaws
-pub mod PresentLaws

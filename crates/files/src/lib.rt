@@ -1,122 +1,109 @@
 // File lists and file names: check 17.
 // It asks the records that were gathered.
-#![tactic(auto)]
+#![tactic(auto, unfolding(format::specs::Verdicts::both, format::specs::Verdicts::check, crate::specs::Files::count_check, crate::specs::Files::old_names_right, crate::specs::Files::names_check))]
 
 ghost use Rattle.std.specs.Prelude.{◌≡◌, ℕ};
 ghost use Rattle.tags.specs.Tables.{shown_by};
-ghost use Rattle.files.specs.Files.{count_check, counts_check, file_tags, old_names_right, present_check, new_names_check, names_check};
+ghost use Rattle.files.specs.Files.{count_check, counts_check, file_tags, old_names_right, present_check, new_names_check, names_check, counted_check};
 ghost use Rattle.files.specs.Files.{file_groups};
 
-use format::Verdict;
-use tags::{Table, count, has};
-
-// A tag that is present has a count.
-fn counts(header: &[u32; Table::NUMBERS], n: u32, tag: u32) -> Verdict
-    ensures { result ≡ count_check (shown_by header.now) n tag }
-{
-    if !has(header, tag) {
-        return Verdict::Pass;
-    }
-    if count(header, tag) == n {
-        return Verdict::Pass;
-    }
-    Verdict::Fail(17, tag)
-}
+use format::{Refusal, Verdict};
+use tags::Table;
 
 // The tags that have one value for each file.
 const FILE_TAGS: [u32; 12] = [
     1030, 1033, 1034, 1035, 1036, 1037, 1039, 1040, 1045, 1095, 1096, 1097,
 ];
 
+// A tag that is present has a count.
+fn counts(header: &Table, n: u32, tag: u32) -> Verdict
+    ensures { result ≡ count_check (shown_by header.now) n tag }
+{
+    if header.has(tag) && header.count(tag) != n {
+        return Err(Refusal {
+            number: 17,
+            place: tag,
+        });
+    }
+    Ok(())
+}
+
 // Each tag of the files has the count of 1028.
-fn lists(header: &[u32; Table::NUMBERS], n: u32) -> Verdict
+fn lists(header: &Table, n: u32) -> Verdict
     ensures { result ≡ counts_check (shown_by header.now) n file_tags }
 {
-    let table = FILE_TAGS;
-    let mut i = 0;
-    while i < 12 {
-        let v = counts(header, n, table[i]);
-        if let Verdict::Fail(number, place) = v {
-            return Verdict::Fail(number, place);
-        }
-        i += 1;
+    for tag in FILE_TAGS {
+        counts(header, n, tag)?;
     }
-    Verdict::Pass
+    Ok(())
 }
 
 // The old form of the file names stands alone, with the count of 1028.
-fn old_names_right(header: &[u32; Table::NUMBERS], n: u32) -> bool
+fn old_names_right(header: &Table, n: u32) -> bool
     ensures { result ≡ old_names_right (shown_by header.now) n }
 {
-    if count(header, 1027) != n {
-        return false;
-    }
-    if has(header, 1116) {
-        return false;
-    }
-    if has(header, 1117) {
-        return false;
-    }
-    if has(header, 1118) {
-        return false;
-    }
-    true
+    header.count(1027) == n && !header.has(1116) && !header.has(1117) && !header.has(1118)
 }
 
-// Three tags are all present.
-pub fn present(tags: &[u32; Table::NUMBERS], a: u32, b: u32, c: u32) -> Verdict
-    ensures { result ≡ present_check (shown_by tags.now) a b c }
+// All of some tags are present.
+pub fn present(tags: &Table, group: &[u32]) -> Verdict
+    ensures { result ≡ present_check (shown_by tags.now) group.now }
 {
-    if !has(tags, a) {
-        return Verdict::Fail(17, a);
+    for tag in group {
+        if !tags.has(*tag) {
+            return Err(Refusal {
+                number: 17,
+                place: *tag,
+            });
+        }
     }
-    if !has(tags, b) {
-        return Verdict::Fail(17, b);
+    Ok(())
+}
+
+// All of some tags have a count.
+pub fn counted(tags: &Table, n: u32, group: &[u32]) -> Verdict
+    ensures { result ≡ counted_check (shown_by tags.now) n group.now }
+{
+    for tag in group {
+        if tags.count(*tag) != n {
+            return Err(Refusal {
+                number: 17,
+                place: *tag,
+            });
+        }
     }
-    if !has(tags, c) {
-        return Verdict::Fail(17, c);
-    }
-    Verdict::Pass
+    Ok(())
 }
 
 // The new form of the file names is whole.
-fn new_names(header: &[u32; Table::NUMBERS], n: u32) -> Verdict
+fn new_names(header: &Table, n: u32) -> Verdict
     ensures { result ≡ new_names_check (shown_by header.now) n }
 {
-    let v = present(header, 1116, 1117, 1118);
-    if let Verdict::Fail(number, place) = v {
-        return Verdict::Fail(number, place);
-    }
-    if count(header, 1116) != n {
-        return Verdict::Fail(17, 1116);
-    }
-    if count(header, 1117) != n {
-        return Verdict::Fail(17, 1117);
-    }
-    Verdict::Pass
+    present(header, &[1116, 1117, 1118])?;
+    counted(header, n, &[1116, 1117])
 }
 
 // The file names, in the old form or in the new.
-fn names(header: &[u32; Table::NUMBERS], n: u32) -> Verdict
+fn names(header: &Table, n: u32) -> Verdict
     ensures { result ≡ names_check (shown_by header.now) n }
 {
-    if has(header, 1027) {
-        if old_names_right(header, n) {
-            return Verdict::Pass;
-        }
-        return Verdict::Fail(17, 1027);
+    if !header.has(1027) {
+        return new_names(header, n);
     }
-    new_names(header, n)
+    if !old_names_right(header, n) {
+        return Err(Refusal {
+            number: 17,
+            place: 1027,
+        });
+    }
+    Ok(())
 }
 
 // The file lists, then the file names.
-pub fn check(header: &[u32; Table::NUMBERS]) -> Verdict
+pub fn check(header: &Table) -> Verdict
     ensures { result ≡ file_groups (shown_by header.now) }
 {
-    let n = count(header, 1028);
-    let v = lists(header, n);
-    if let Verdict::Fail(number, place) = v {
-        return Verdict::Fail(number, place);
-    }
+    let n = header.count(1028);
+    lists(header, n)?;
     names(header, n)
 }

@@ -4,23 +4,23 @@ use Prim.Native.Nat.{ℕ, suc, ◌+◌, ◌-◌, ◌≤◌, ◌<◌}
 use mathlib.Core.Path.{◌≡◌, refl, sym, ◌∙◌}
 use mathlib.Core.Bool.{Bool, true, false}
 use native.Mathlib.Omega.{arith}
-use Rattle.format.specs.declared.verdict.Verdict.{Verdict}
-use Rattle.format.specs.declared.verdict.Verdict.TheVariants.{Pass, Fail}
-use Rattle.format.specs.Verdicts.{check, both, run_from}
+use Rattle.format.specs.Verdicts.{check, both, run_from, Verdict, pass}
+use Rattle.format.specs.declared.verdict.Refusal.{Refusal}
 use Rattle.format.proofs.VerdictLaws.{both_pass, both_fail}
+use Rattle.std.specs.Prelude.{Ok, Err}
 
-pub both_end : (v : Verdict) → both v Pass ≡ v
+pub both_end : (v : Verdict) → both v pass ≡ v
 unfolding both
-both_end Pass = refl
-both_end (Fail number place) = refl
+both_end (Ok _) = refl
+both_end (Err e) = refl
 
 pub both_assoc : (u v w : Verdict) → both (both u v) w ≡ both u (both v w)
 unfolding both
-both_assoc Pass v w = refl
-both_assoc (Fail number place) v w = refl
+both_assoc (Ok _) v w = refl
+both_assoc (Err e) v w = refl
 
 -- one rung and what follows it; and where what follows is apart, so is the whole under one rung more
-pub apart : (ok : Bool) (number place : ℕ) (rest : Verdict) → check ok number place rest ≡ both (check ok number place Pass) rest
+pub apart : (ok : Bool) (number place : ℕ) (rest : Verdict) → check ok number place rest ≡ both (check ok number place pass) rest
 unfolding check both
 apart true number place rest = refl
 apart false number place rest = refl
@@ -36,7 +36,7 @@ module _ (checkAt : ℕ → Verdict) where
   unfolding run_from
   first n i = refl
 
-  pub none : (i : ℕ) → run_from checkAt 0 i ≡ Pass
+  pub none : (i : ℕ) → run_from checkAt 0 i ≡ pass
   unfolding run_from
   none i = refl
 
@@ -51,11 +51,11 @@ module _ (checkAt : ℕ → Verdict) where
   -- in the shape of what is known in a turn: v is what the run began with, r what check i found
   module _ (to i : ℕ) {v : Verdict} (inv : v ≡ run_from checkAt (to - i) i) where
     module _ {r : Verdict} (p : r ≡ checkAt i) (h : i < to) where
-      pub turn : r ≡ Pass → v ≡ run_from checkAt (to - (i + 1)) (i + 1)
+      pub turn : r ≡ pass → v ≡ run_from checkAt (to - (i + 1)) (i + 1)
       turn k = inv ∙ unrolled to i h ∙ both_pass (sym p ∙ k)
 
-      pub ends : {number place : ℕ} → r ≡ Fail number place → Fail number place ≡ v
+      pub ends : {e : Refusal} → r ≡ Err e → Err e ≡ v
       ends k = sym (inv ∙ unrolled to i h ∙ both_fail _ (sym p ∙ k))
 
-    pub spent : to ≤ i → Pass ≡ v
+    pub spent : to ≤ i → pass ≡ v
     spent l = let k : to - i ≡ 0 = omega arith in sym (inv ∙ rw k (none i))

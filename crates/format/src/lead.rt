@@ -44,7 +44,7 @@ impl Lead {
             major: be::byte_at(pkg, Self::MAJOR),
             minor: be::byte_at(pkg, Self::MINOR),
             ty: be::be16(pkg, Self::TYPE),
-            named: strings::ended(strings::strings_end(pkg, Self::NAME, Self::SYSTEM, 1)),
+            named: strings::strings_end(pkg, Self::NAME, Self::SYSTEM, 1).is_some(),
             system: be::be16(pkg, Self::SYSTEM),
             signature_type: be::be16(pkg, Self::SIGNATURE_TYPE),
         }

@@ -9,4 +9,4 @@ pub mod verdict;
 pub use lead::Lead;
 pub use records::{HeaderRecord, IndexRecord};
 pub use section::{Section, Structure};
-pub use verdict::{Answer, Verdict};
+pub use verdict::{Answer, Refusal, Verdict, packed};

@@ -8,25 +8,26 @@ use lib.ListN.{get_or}
 use lib.Dec.{leb}
 use native.Mathlib.Omega.{arith}
 use borrow.Author.Tests.{eqb-true, leb-true, leb-false}
-use Rattle.format.specs.declared.verdict.Verdict.TheVariants.{Pass, Fail}
-use Rattle.format.proofs.VerdictLaws.{inverted}
+use Rattle.format.proofs.VerdictLaws.{inverted, refusal_same}
 use Rattle.format.proofs.FirstLaws.{pass_not_fail, run_passes, run_fails}
 use Rattle.gap.specs.Gap.{gap_end, zero_check, gap_check}
 use Rattle.gap.specs.Order.{InGap, GapPass, GapInOrder}
 use Rattle.gap.proofs.GapLaws.{zero_passes, stray_fails}
+use Rattle.std.specs.Prelude.{Err}
+use Rattle.format.specs.Verdicts.{pass, refusal}
 
 module _ (s : List ℕ) (i : ℕ) where
-  byte_passes : (zero_check s i ≡ Pass) ↔ (get_or s i 0 ≡ 0)
+  byte_passes : (zero_check s i ≡ pass) ↔ (get_or s i 0 ≡ 0)
   unfolding zero_check
   byte_passes = (λ h. eqb-true _ _ (inverted _ _ _ _ h).0, zero_passes s i refl)
 
-  byte_fails : {number place : ℕ} → (zero_check s i ≡ Fail number place) ↔ ((number ≡ 28) × (i ≡ place) × (get_or s i 0 ≢ 0))
+  byte_fails : {number place : ℕ} → (zero_check s i ≡ Err (refusal number place)) ↔ ((number ≡ 28) × (i ≡ place) × (get_or s i 0 ≢ 0))
   byte_fails {number} {place} = (
     λ h.
         let stray : get_or s i 0 ≢ 0 = λ z. pass_not_fail (sym (zero_passes s i refl z) ∙ h) in
-        let same : Fail 28 i ≡ Fail number place = sym (stray_fails s i refl stray) ∙ h in
-        (cc, cc, stray),
-    λ h. stray_fails s i refl h.2 ∙ cc (h.0, h.1),
+        let same : (Err (refusal 28 i)) ≡ Err (refusal number place) = sym (stray_fails s i refl stray) ∙ h in
+        (sym (refusal_same same).0, (refusal_same same).1, stray),
+    λ h. stray_fails s i refl h.2 ∙ rw (h.0, h.1),
   )
 
 -- the bytes that are gone through are those between the signature's end and H that the package has

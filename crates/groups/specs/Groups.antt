@@ -1,23 +1,23 @@
 -- Document 01, "Catalogue", groups (check 17), in its order. Unless said otherwise the place is the lowest missing tag,
 -- else the lowest tag whose count differs. A structure is what it shows for each tag; the last group, request 2's, asks the
 -- header's index.
-use Rattle.std.specs.Prelude.{ℕ, ◌+◌, ◌*◌, ◌/◌, List, cond, not, ◌||◌, length, get_or, eqb}
+use Rattle.std.specs.List.{list_any}
+use Rattle.std.specs.Prelude.{ℕ, List, cond, not, ◌||◌, length, get_or, eqb}
 use Rattle.format.specs.declared.section.Section.{Section}
-use Rattle.format.specs.declared.verdict.Verdict.{Verdict}
-use Rattle.format.specs.declared.verdict.Verdict.TheVariants.{Pass}
-use Rattle.format.specs.Verdicts.{check, both, run_from}
+use Rattle.format.specs.Verdicts.{check, both, run_from, Verdict, pass}
 use Rattle.tags.specs.Tags.{Look, has, count_in}
-use Rattle.files.specs.Files.{files_check, names_check}
+use Rattle.files.specs.Files.{files_check, names_check, present_check, counted_check}
+use Rattle.groups.specs.declared.LedGroup.{LedGroup}
 use Rattle.locales.specs.Locales.{locales_check}
 
 -- one tag needs another
 unfoldable pub needs_check : Look → ℕ → ℕ → Verdict
-needs_check look tag other = check (not (has look tag) || has look other) 17 other Pass
+needs_check look tag other = check (not (has look tag) || has look other) 17 other pass
 
--- pairs in a row, each a tag and the one that it needs
-abbrev pub pairs_check : Look → List ℕ → Verdict
+-- pairs, each a tag and the one that it needs
+abbrev pub pairs_check : Look → List (ℕ × ℕ) → Verdict
 pairs_check look pairs =
-    run_from (λ (i : ℕ). needs_check look (get_or pairs (2 * i) 0) (get_or pairs (2 * i + 1) 0)) (length pairs / 2) 0
+    run_from (λ (i : ℕ). needs_check look (get_or pairs i (0, 0)).0 (get_or pairs i (0, 0)).1) (length pairs) 0
 
 -- the signature's 1011 needs its 1005; its 1012 needs its 1002
 unfoldable pub signature_pairs : Look → Verdict
@@ -40,12 +40,19 @@ whole_check header n a b c =
     (check (eqb (count_in header a) n) 17 a
     (check (eqb (count_in header b) n) 17 b
     (check (eqb (count_in header c) n) 17 c
-    Pass)))))
+    pass)))))
 
 -- a group of three tags, in order, led by one of them: all or none present, counts equal to the leader's
 unfoldable pub led_check : Look → ℕ → ℕ → ℕ → ℕ → Verdict
 led_check header leader a b c =
-    cond (has header a || has header b || has header c) (whole_check header (count_in header leader) a b c) Pass
+    cond (has header a || has header b || has header c) (whole_check header (count_in header leader) a b c) pass
+
+-- the same for a list of tags
+abbrev pub led_by : Look → LedGroup → Verdict
+led_by header group =
+    cond (list_any (has header) group.tags)
+    (both (present_check header group.tags) (counted_check header (count_in header group.leader) group.tags))
+    pass
 
 -- the groups led by 1049 (1048, 1050), 1047 (1112, 1113), 1054 (1053, 1055), 1090 (1114, 1115) and 1081 (1080, 1082)
 unfoldable pub led_groups : Look → Verdict

@@ -1,159 +1,125 @@
 // Groups of tags, those of the files and the locales among them: check 17.
 // All but the last group ask the records that were gathered.
-#![tactic(auto)]
+#![tactic(auto, unfolding(format::specs::Verdicts::check, crate::specs::Groups::needs_check))]
 
-ghost use Rattle.std.specs.Prelude.{◌≡◌, ◌||◌};
+ghost use Rattle.std.specs.Prelude.{◌≡◌};
+ghost use Rattle.std.specs.List.{list_any};
 ghost use Rattle.tags.specs.Tags.{has};
 ghost use Rattle.tags.specs.Tables.{shown_by};
 ghost use Rattle.groups.specs.Groups.{needs_check, pairs_check, signature_pairs, script_pairs};
-ghost use Rattle.groups.specs.Groups.{whole_check, led_check, led_groups, groups_check};
+ghost use Rattle.groups.specs.Groups.{led_by, led_groups, groups_check};
 
-use format::{Section, Verdict};
-use tags::{Table, count, has};
+use format::{Refusal, Section, Verdict};
+use tags::Table;
 
-// One tag needs another.
-fn needs(tags: &[u32; Table::NUMBERS], tag: u32, other: u32) -> Verdict
-    ensures { result ≡ needs_check (shown_by tags.now) tag other }
-{
-    if !has(tags, tag) {
-        return Verdict::Pass;
-    }
-    if has(tags, other) {
-        return Verdict::Pass;
-    }
-    Verdict::Fail(17, other)
+// The signature's pairs: a tag and the one that it needs.
+const SIGNATURE_PAIRS: [(u32, u32); 2] = [(1011, 1005), (1012, 1002)];
+
+// The header's pairs: scripts need their programs.
+const SCRIPT_PAIRS: [(u32, u32); 4] = [(1023, 1085), (1024, 1086), (1025, 1087), (1026, 1088)];
+
+// Three tags, and the one of them that leads the group.
+struct LedGroup {
+    leader: u32,
+    tags: [u32; 3],
 }
 
-// Pairs in a row: each first tag needs the second.
-fn pairs(tags: &[u32; Table::NUMBERS], pairs: &[u32]) -> Verdict
+// The led groups, in order.
+const LED_GROUPS: [LedGroup; 5] = [
+    LedGroup {
+        leader: 1049,
+        tags: [1048, 1049, 1050],
+    },
+    LedGroup {
+        leader: 1047,
+        tags: [1047, 1112, 1113],
+    },
+    LedGroup {
+        leader: 1054,
+        tags: [1053, 1054, 1055],
+    },
+    LedGroup {
+        leader: 1090,
+        tags: [1090, 1114, 1115],
+    },
+    LedGroup {
+        leader: 1081,
+        tags: [1080, 1081, 1082],
+    },
+];
+
+// One tag needs another.
+fn needs(tags: &Table, tag: u32, other: u32) -> Verdict
+    ensures { result ≡ needs_check (shown_by tags.now) tag other }
+{
+    if tags.has(tag) && !tags.has(other) {
+        return Err(Refusal {
+            number: 17,
+            place: other,
+        });
+    }
+    Ok(())
+}
+
+// The first tag of each pair needs the second.
+fn pairs(tags: &Table, pairs: &[(u32, u32)]) -> Verdict
     ensures { result ≡ pairs_check (shown_by tags.now) pairs.now }
 {
-    let n = pairs.len() / 2;
-    let mut i = 0;
-    while i < n {
-        let at = 2 * i;
-        let v = needs(tags, pairs[at], pairs[at + 1]);
-        if let Verdict::Fail(number, place) = v {
-            return Verdict::Fail(number, place);
-        }
-        i += 1;
+    for (tag, other) in pairs {
+        needs(tags, *tag, *other)?;
     }
-    Verdict::Pass
+    Ok(())
 }
 
 // The signature's pairs.
-fn signature_pairs(signature: &[u32; Table::NUMBERS]) -> Verdict
+fn signature_pairs(signature: &Table) -> Verdict
     ensures { result ≡ signature_pairs (shown_by signature.now) }
 {
-    let table: [u32; 4] = [1011, 1005, 1012, 1002];
-    pairs(signature, &table)
+    pairs(signature, &SIGNATURE_PAIRS)
 }
 
 // Scripts need their programs.
-fn script_pairs(header: &[u32; Table::NUMBERS]) -> Verdict
+fn script_pairs(header: &Table) -> Verdict
     ensures { result ≡ script_pairs (shown_by header.now) }
 {
-    let table: [u32; 8] = [1023, 1085, 1024, 1086, 1025, 1087, 1026, 1088];
-    pairs(header, &table)
+    pairs(header, &SCRIPT_PAIRS)
 }
 
-// All of a group of three tags are present, with the count of the leader's.
-fn whole(header: &[u32; Table::NUMBERS], n: u32, a: u32, b: u32, c: u32) -> Verdict
-    ensures { result ≡ whole_check (shown_by header.now) n a b c }
+// Whether one of some tags is present.
+fn any_of(tags: &Table, group: &[u32]) -> bool
+    ensures { result ≡ list_any (has (shown_by tags.now)) group.now }
 {
-    let v = files::present(header, a, b, c);
-    if let Verdict::Fail(number, place) = v {
-        return Verdict::Fail(number, place);
-    }
-    if count(header, a) != n {
-        return Verdict::Fail(17, a);
-    }
-    if count(header, b) != n {
-        return Verdict::Fail(17, b);
-    }
-    if count(header, c) != n {
-        return Verdict::Fail(17, c);
-    }
-    Verdict::Pass
+    group.iter().any(|tag| tags.has(*tag))
 }
 
-// Whether one of three tags is present.
-fn any_of(header: &[u32; Table::NUMBERS], a: u32, b: u32, c: u32) -> bool
-    ensures { let look = shown_by header.now in result ≡ (has look a || has look b || has look c) }
+// A led group: all or none of its tags are present, with counts equal to the leader's.
+fn led(header: &Table, group: &LedGroup) -> Verdict
+    ensures { result ≡ led_by (shown_by header.now) group.now }
 {
-    if has(header, a) {
-        return true;
+    if !any_of(header, &group.tags) {
+        return Ok(());
     }
-    if has(header, b) {
-        return true;
-    }
-    if has(header, c) {
-        return true;
-    }
-    false
+    files::present(header, &group.tags)?;
+    files::counted(header, header.count(group.leader), &group.tags)
 }
-
-// A group of three tags, led by one of them: all or none present, counts equal to the leader's.
-fn led(header: &[u32; Table::NUMBERS], leader: u32, a: u32, b: u32, c: u32) -> Verdict
-    ensures { result ≡ led_check (shown_by header.now) leader a b c }
-{
-    if any_of(header, a, b, c) {
-        let n = count(header, leader);
-        return whole(header, n, a, b, c);
-    }
-    Verdict::Pass
-}
-
-// The led groups, in order: a leader, and the three tags of its group.
-const LED_GROUPS: [[u32; 4]; 5] = [
-    [1049, 1048, 1049, 1050],
-    [1047, 1047, 1112, 1113],
-    [1054, 1053, 1054, 1055],
-    [1090, 1090, 1114, 1115],
-    [1081, 1080, 1081, 1082],
-];
 
 // The led groups, in order.
-fn led_groups(header: &[u32; Table::NUMBERS]) -> Verdict
+fn led_groups(header: &Table) -> Verdict
     ensures { result ≡ led_groups (shown_by header.now) }
 {
-    let table = LED_GROUPS;
-    let mut i = 0;
-    while i < 5 {
-        let group = table[i];
-        let v = led(header, group[0], group[1], group[2], group[3]);
-        if let Verdict::Fail(number, place) = v {
-            return Verdict::Fail(number, place);
-        }
-        i += 1;
+    for group in &LED_GROUPS {
+        led(header, group)?;
     }
-    Verdict::Pass
+    Ok(())
 }
 
 // Check 17, over what was gathered from signature and header.
-pub fn check(
-    pkg: &[u8],
-    header: Section,
-    first: &[u32; Table::NUMBERS],
-    second: &[u32; Table::NUMBERS],
-) -> Verdict
+pub fn check(pkg: &[u8], header: Section, first: &Table, second: &Table) -> Verdict
     ensures { result ≡ groups_check pkg.now header (shown_by first.now) (shown_by second.now) }
 {
-    let v = signature_pairs(first);
-    if let Verdict::Fail(number, place) = v {
-        return Verdict::Fail(number, place);
-    }
-    let v = script_pairs(second);
-    if let Verdict::Fail(number, place) = v {
-        return Verdict::Fail(number, place);
-    }
-    let v = files::check(second);
-    if let Verdict::Fail(number, place) = v {
-        return Verdict::Fail(number, place);
-    }
-    let v = led_groups(second);
-    if let Verdict::Fail(number, place) = v {
-        return Verdict::Fail(number, place);
-    }
-    locales::check(pkg, header, count(second, 100))
+    signature_pairs(first)?;
+    script_pairs(second)?;
+    files::check(second)?;
+    led_groups(second)?;
+    locales::check(pkg, header, second.count(100))
 }

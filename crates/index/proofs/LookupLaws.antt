@@ -7,50 +7,31 @@ use lib.ListN.{length, take, drop}
 use lib.Dec.{eqb}
 use native.Mathlib.Omega.{arith}
 use borrow.Author.Tests.{eq-eqb, ne_eqb, eqb-true}
-use Rattle.strings.specs.declared.Ending.{Ending}
-use Rattle.strings.specs.declared.Ending.TheVariants.{Ends, Open}
 use Rattle.be.specs.Numbers.{be32_at}
 use Rattle.among.specs.Among.{has_tag, first_from}
 use Rattle.among.proofs.FirstLaws.{behind, holds}
 use Rattle.among.proofs.RowLaws.{row}
-use Rattle.places.specs.declared.FileOffset.{FileOffset}
 use Rattle.format.specs.declared.section.Section.{Section}
 use Rattle.format.specs.declared.records.IndexRecord.{IndexRecord}
-use Rattle.format.specs.Places.{record_place, in_file}
+use Rattle.format.specs.Places.{record_place}
 use Rattle.format.specs.Records.{index_record_at}
 use Rattle.index.specs.declared.Entry.{Entry}
-use Rattle.index.specs.declared.Found.{Found}
-use Rattle.index.specs.declared.Found.TheVariants.{At, Nothing}
 use Rattle.entries.specs.Entries.{record_at, data_end}
-use Rattle.index.specs.Lookup.{extent_to, entry_of, entry_at, is_for, find_from}
-
-module _ (from : ℕ) {at to : ℕ} (e : at ≡ from) {end : Ending} (h : end ≡ Ends to) where
-  pub extent_ends : at ≤ to → to - at ≡ extent_to from end
-  extent_ends l = rw (e, h)
-
-  pub extent_none : to < at → 0 ≡ extent_to from end
-  extent_none l = rw h (omega arith)
-
-pub extent_open : (from : ℕ) {end : Ending} → end ≡ Open → 0 ≡ extent_to from end
-extent_open from h = rw h
-
-pub entry_made : (section : Section) (e : IndexRecord) (end : Ending) {at : FileOffset} {n : ℕ} → at.0 ≡ in_file section e.offset
-    → n ≡ extent_to at.0 end
-    → ◌≡◌ {A = Entry} (record { ty = e.ty; count = e.count; at = at; extent = n }) (entry_of section e end)
-entry_made section e end p q = rw (q, p)
+use Rattle.index.specs.Lookup.{entry_of, entry_at, is_for, find_from}
+use Rattle.std.specs.Prelude.{Option, Some, None}
 
 module _ (s : List ℕ) (section : Section) (tag ty : ℕ) where
-  pub none : (n i : ℕ) → n ≡ 0 → Nothing ≡ find_from s section n i tag ty
+  pub none : (n i : ℕ) → n ≡ 0 → None ≡ find_from s section n i tag ty
   unfolding find_from
   none n i h = rw h
 
   step : (n i : ℕ) → find_from s section (suc n) i tag ty
-      ≡ cond (is_for tag ty (record_at s section i)) (At (entry_at s section i)) (find_from s section n (i + 1) tag ty)
+      ≡ cond (is_for tag ty (record_at s section i)) (Some (entry_at s section i)) (find_from s section n (i + 1) tag ty)
   unfolding find_from
   step n i = refl
 
   unrolled : (n i : ℕ) → i < n → find_from s section (n - i) i tag ty
-      ≡ cond (is_for tag ty (record_at s section i)) (At (entry_at s section i)) (find_from s section (n - (i + 1)) (i + 1) tag ty)
+      ≡ cond (is_for tag ty (record_at s section i)) (Some (entry_at s section i)) (find_from s section (n - (i + 1)) (i + 1) tag ty)
   unrolled n i l =
       let k : n - i ≡ suc (n - (i + 1)) = omega arith in
       rw k (step (n - (i + 1)) i)
@@ -66,7 +47,7 @@ skip s section tag ty test same (suc n) i = go (test i) refl (skip s section tag
     go : (b : Bool) → test i ≡ b
         → find_from s section n (i + 1) tag ty
         ≡ find_from s section (n + (i + 1) - first_from test n (i + 1)) (first_from test n (i + 1)) tag ty
-        → cond (is_for tag ty (record_at s section i)) (At (entry_at s section i)) (find_from s section n (i + 1) tag ty)
+        → cond (is_for tag ty (record_at s section i)) (Some (entry_at s section i)) (find_from s section n (i + 1) tag ty)
         ≡ find_from s section (suc n + i - cond b i (first_from test n (i + 1))) (cond b i (first_from test n (i + 1))) tag ty
     go true h more = let k : suc n + i - i ≡ suc n = omega arith in rw k
     go false h more =
@@ -79,7 +60,7 @@ fewer test n from q l = let b = behind test (n - from) from in omega arith
 
 -- in the shape of what is known in a turn: v is what the search began with, the records from `from` on are left, i is the first of
 -- them that has the tag, e the record that was read there
-module _ (s : List ℕ) (section : Section) (tag ty n from : ℕ) {at i : ℕ} {part : List ℕ} {v : Found}
+module _ (s : List ℕ) (section : Section) (tag ty n from : ℕ) {at i : ℕ} {part : List ℕ} {v : Option Entry}
     (q : i ≡ first_from (has_tag part tag) (n - from) from) (p : part ≡ take (length s) (drop at s)) (d : at ≡ record_place section 0)
     (inv : v ≡ find_from s section (n - from) from tag ty) (l : from < n) where
   same : (k : ℕ) → has_tag part tag k ≡ eqb (be32_at s (record_place section k)) tag
@@ -91,7 +72,7 @@ module _ (s : List ℕ) (section : Section) (tag ty n from : ℕ) {at i : ℕ} {
       let k : n - from + from ≡ n = omega arith in
       inv ∙ skip s section tag ty (has_tag part tag) same (n - from) from ∙ rw (k, ← q)
 
-  pub absent : n ≤ i → Nothing ≡ v
+  pub absent : n ≤ i → None ≡ v
   absent m = none s section tag ty (n - i) i (omega arith) ∙ sym passed
 
   module _ (m : i < n) where
@@ -111,12 +92,12 @@ module _ (s : List ℕ) (section : Section) (tag ty n from : ℕ) {at i : ℕ} {
       pub other_type : (e.ty ≡ ty → ⊥) → v ≡ find_from s section (n - (i + 1)) (i + 1) tag ty
       other_type k = passed ∙ unrolled s section tag ty n i m ∙ rw (same_type false (ne_eqb e.ty ty k))
 
-      pub ends : {end : Ending} {entry : Entry} → e.ty ≡ ty → end ≡ data_end s section e → entry ≡ entry_of section e end
-          → At entry ≡ v
+      pub ends : {end : Option ℕ} {entry : Entry} → e.ty ≡ ty → end ≡ data_end s section e → entry ≡ entry_of section e end
+          → Some entry ≡ v
       ends k f j =
-          ap At (rw (f, here) at j)
+          ap Some (rw (f, here) at j)
           ∙ sym (passed ∙ unrolled s section tag ty n i m ∙ rw (same_type true (eq-eqb e.ty ty k)))
 
-pub spent : (s : List ℕ) (section : Section) (tag ty n i : ℕ) {v : Found} → v ≡ find_from s section (n - i) i tag ty → n ≤ i
-    → Nothing ≡ v
+pub spent : (s : List ℕ) (section : Section) (tag ty n i : ℕ) {v : Option Entry} → v ≡ find_from s section (n - i) i tag ty → n ≤ i
+    → None ≡ v
 spent s section tag ty n i inv l = none s section tag ty (n - i) i (omega arith) ∙ sym inv

@@ -7,7 +7,6 @@ ghost use Rattle.index.specs.Lookup.{extent_to, entry_of, find_in};
 use entries::data_end;
 use format::{IndexRecord, Section};
 use places::FileOffset;
-use strings::Ending;
 
 // An entry: its type and count, where its data starts in the file, and how many bytes it has.
 #[derive(Clone, Copy)]
@@ -18,47 +17,28 @@ pub struct Entry {
     pub extent: usize,
 }
 
-// What a search finds.
-#[derive(Clone, Copy)]
-pub enum Found {
-    At(Entry),
-    Nothing,
-}
-
-// The index record with a tag, where there is one.
-#[derive(Clone, Copy)]
-pub enum Tagged {
-    Present(IndexRecord),
-    Absent,
-}
-
 // How many bytes lie between a place and an end.
-pub fn extent_to(from: FileOffset, end: Ending) -> usize
+pub fn extent_to(from: FileOffset, end: Option<usize>) -> usize
     ensures { result ≡ extent_to from.0 end }
 {
-    let start = from.get();
-    match end {
-        Ending::Ends(to) => { if start <= to { to - start } else { 0 } }
-        Ending::Open => 0,
-    }
+    end.map_or(0, |to| to.saturating_sub(from.get()))
 }
 
 // The entry of an index record whose data ends at a place.
-pub fn entry_of(section: Section, e: IndexRecord, end: Ending) -> Entry
+pub fn entry_of(section: Section, e: IndexRecord, end: Option<usize>) -> Entry
     ensures { result ≡ entry_of section e end }
 {
     let at = section.in_file(e.offset);
-    let extent = extent_to(at, end);
     Entry {
         ty: e.ty,
         count: e.count,
-        at: at,
-        extent: extent,
+        at,
+        extent: extent_to(at, end),
     }
 }
 
 // The first entry of a structure that has the tag and the type.
-pub fn find(s: &[u8], section: Section, tag: u32, ty: u32) -> Found
+pub fn find(s: &[u8], section: Section, tag: u32, ty: u32) -> Option<Entry>
     ensures { result ≡ find_in s.now section tag ty }
 {
     let n = section.nindex;
@@ -68,15 +48,15 @@ pub fn find(s: &[u8], section: Section, tag: u32, ty: u32) -> Found
     while next < n {
         let i = among::first_with(index, n, next, tag);
         if n <= i {
-            return Found::Nothing;
+            return None;
         }
         next = i + 1;
         let place = section.index_record(i);
         let e = IndexRecord::at(s, place);
         if e.ty == ty {
             let end = data_end(s, section, e);
-            return Found::At(entry_of(section, e, end));
+            return Some(entry_of(section, e, end));
         }
     }
-    Found::Nothing
+    None
 }

@@ -18,16 +18,21 @@ const ROOM: usize = FileOffset::LIMIT + 1;
 // Shows what is asked.
 fn answer(rt: &(impl Env + Print), asked: Request, pkg: &[u8]) -> io::Result<()> {
     match asked {
-        Request::Index(which) => show::put_index(rt, pkg, which),
-        Request::Find(which, tag, ty) => show::put_found(
+        Request::Index { which } => show::put_index(rt, pkg, which),
+        Request::Find { which, tag, ty } => show::put_found(
             rt,
             lookups::find_answer(pkg, which, tag, ty),
             lookups::find(pkg, which, tag, ty),
         ),
-        Request::Element(which, tag, ty, k) => show::put_found(
+        Request::Element {
+            which,
+            tag,
+            ty,
+            number,
+        } => show::put_found(
             rt,
-            elements::find_element_answer(pkg, which, tag, ty, k),
-            elements::find_element(pkg, which, tag, ty, k),
+            elements::find_element_answer(pkg, which, tag, ty, number),
+            elements::find_element(pkg, which, tag, ty, number),
         ),
         Request::Requires => show::put_required(rt, pkg),
         Request::Meets => versions::put_meets(rt, pkg),
@@ -39,14 +44,12 @@ fn answer(rt: &(impl Env + Print), asked: Request, pkg: &[u8]) -> io::Result<()>
 
 fn main(rt: HostRuntime) -> io::Result<()> {
     let asked = request::of_arguments(&rt);
-    if !request::of_package(asked) {
+    if !asked.of_package() {
         return answer(&rt, asked, b"");
     }
     let mut room = [0u8; ROOM];
-    let got = input::read(&mut rt.reader(), &mut room);
-    if got.failed {
-        return show::put_unread(&rt);
+    match input::read(&mut rt.reader(), &mut room) {
+        Ok(count) => answer(&rt, asked, &room[..count]),
+        Err(_) => show::put_unread(&rt),
     }
-    let n = got.count;
-    answer(&rt, asked, &room[..n])
 }

@@ -1,8 +1,7 @@
 // What the program writes.
 ghost use Rattle.std.specs.Prelude.{◌≤◌, length};
 
-use format::{Answer, IndexRecord};
-use package::Opened;
+use format::{Answer, IndexRecord, Refusal};
 use std::env::Env;
 use std::io;
 use walk::Position;
@@ -15,6 +14,7 @@ pub(crate) fn put(rt: &impl Print, bytes: &[u8]) -> io::Result<()> {
 }
 
 // At most 5 numbers on a line.
+#[tactic(auto, using(text::proofs::LineLaws::within))]
 fn put_line(rt: &impl Print, numbers: &[u32]) -> io::Result<()>
     requires { length numbers.now ≤ 5 }
 {
@@ -24,12 +24,12 @@ fn put_line(rt: &impl Print, numbers: &[u32]) -> io::Result<()>
 }
 
 // The line of a refusal.
-pub(crate) fn put_refusal(rt: &impl Print, number: u32, place: u32) -> io::Result<()> {
-    print!(rt; "refused {number} at ")?;
-    put_line(rt, &[place])
+pub(crate) fn put_refusal(rt: &impl Print, refusal: Refusal) -> io::Result<()> {
+    println!(rt; "refused {refusal}")
 }
 
 // At most 2,048 bytes in hex.
+#[tactic(auto, using(text::proofs::HexLaws::within))]
 fn put_part(rt: &impl Print, part: &[u8]) -> io::Result<()>
     requires { length part.now ≤ 2048 }
 {
@@ -40,25 +40,20 @@ fn put_part(rt: &impl Print, part: &[u8]) -> io::Result<()>
 
 // Bytes in hex on a line.
 fn put_hex(rt: &impl Print, bytes: &[u8]) -> io::Result<()> {
-    let len = bytes.len();
-    let mut at = 0;
-    while PART < len - at {
-        let end = at + PART;
-        put_part(rt, &bytes[at..end])?;
-        at = end;
+    for part in bytes.chunks(PART) {
+        put_part(rt, part)?;
     }
-    put_part(rt, &bytes[at..])?;
     put(rt, b"\n")
 }
 
 // A look-up: `0 PLACE` and the bytes, or the refusal.
 pub(crate) fn put_found(rt: &impl Print, answer: Answer, bytes: &[u8]) -> io::Result<()> {
     match answer {
-        Answer::Done(place) => {
+        Ok(place) => {
             put_line(rt, &[0, place])?;
             put_hex(rt, bytes)
         }
-        Answer::Refused(number, place) => put_refusal(rt, number, place),
+        Err(refusal) => put_refusal(rt, refusal),
     }
 }
 
@@ -70,26 +65,25 @@ fn put_record(rt: &impl Print, place: u32, found: IndexRecord) -> io::Result<()>
     )
 }
 
-// What ends a walk: the end of the index, of which nothing is shown, or a refusal.
-fn put_end(rt: &impl Print, answer: Answer) -> io::Result<()> {
-    if let Answer::Refused(number, place) = answer {
-        if number != 26 {
-            return put_refusal(rt, number, place);
-        }
+// What ends a walk: the end of the index, of which nothing is shown, or another refusal.
+fn put_end(rt: &impl Print, refusal: Refusal) -> io::Result<()> {
+    if refusal.number == 26 {
+        Ok(())
+    } else {
+        put_refusal(rt, refusal)
     }
-    Ok(())
 }
 
 // The records of a structure.
+#[tactic(auto, using(crate::proofs::WalkLaws::falls))]
 pub(crate) fn put_index(rt: &impl Print, pkg: &[u8], which: u32) -> io::Result<()> {
     let mut position = Position::first();
     loop {
         let step = position.step(pkg, which);
-        let answer = step.answer;
-        let Answer::Done(place) = answer else {
-            return put_end(rt, answer);
-        };
-        put_record(rt, place, step.found)?;
+        match step.answer {
+            Ok(place) => put_record(rt, place, step.found)?,
+            Err(refusal) => return put_end(rt, refusal),
+        }
         position = step.next;
     }
 }
@@ -97,9 +91,8 @@ pub(crate) fn put_index(rt: &impl Print, pkg: &[u8], which: u32) -> io::Result<(
 // The version required for the name that is argument 2. A name that does not fit the buffer is longer than any string of
 // a package.
 pub(crate) fn put_required(rt: &(impl Env + Print), pkg: &[u8]) -> io::Result<()> {
-    let opened = package::open(pkg);
-    if let Opened::Unsound(number, place) = opened {
-        return put_refusal(rt, number, place);
+    if let Err(refusal) = package::open(pkg) {
+        return put_refusal(rt, refusal);
     }
     let mut name = [0u8; 65536];
     let Ok(n) = rt.arg(2, &mut name) else {

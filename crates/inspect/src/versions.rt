@@ -3,15 +3,15 @@ ghost use Rattle.std.specs.Prelude.{◌≤◌, length};
 
 use crate::show::{put, put_refusal};
 use format::Answer;
-use runs::Order;
+use std::cmp::Ordering;
 use std::env::Env;
 use std::io;
 
-fn put_order(rt: &impl Print, order: Order) -> io::Result<()> {
+fn put_order(rt: &impl Print, order: Ordering) -> io::Result<()> {
     match order {
-        Order::Older => put(rt, b"older\n"),
-        Order::Same => put(rt, b"same\n"),
-        Order::Newer => put(rt, b"newer\n"),
+        Ordering::Less => put(rt, b"older\n"),
+        Ordering::Equal => put(rt, b"same\n"),
+        Ordering::Greater => put(rt, b"newer\n"),
     }
 }
 
@@ -19,10 +19,7 @@ fn put_order(rt: &impl Print, order: Order) -> io::Result<()> {
 fn text_of(rt: &impl Env, i: usize, room: &mut [u8]) -> usize
     ensures { result ≤ length room.new }
 {
-    match rt.arg(i, room) {
-        Ok(n) => n,
-        Err(_) => 0,
-    }
+    rt.arg(i, room).unwrap_or(0)
 }
 
 // How the left text stands to the right one.
@@ -37,14 +34,9 @@ pub(crate) fn put_compared(rt: &(impl Env + Print)) -> io::Result<()> {
 // Yes where the place is 1, else no; or the refusal.
 fn put_met(rt: &impl Print, answer: Answer) -> io::Result<()> {
     match answer {
-        Answer::Done(place) => {
-            if place == 1 {
-                put(rt, b"yes\n")
-            } else {
-                put(rt, b"no\n")
-            }
-        }
-        Answer::Refused(number, place) => put_refusal(rt, number, place),
+        Ok(1) => put(rt, b"yes\n"),
+        Ok(_) => put(rt, b"no\n"),
+        Err(refusal) => put_refusal(rt, refusal),
     }
 }
 

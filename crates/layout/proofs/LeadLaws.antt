@@ -1,5 +1,5 @@
 -- The lead from its parts: name_put, lead_put; how long they are: name_length, lead_length.
-use Prim.Native.Nat.{ℕ, ◌+◌, ◌-◌, ◌≤◌}
+use Prim.Native.Nat.{ℕ, ◌-◌, ◌≤◌}
 use mathlib.Core.Path.{◌≡◌, refl, ap, ◌∙◌}
 use mathlib.Core.List.{List, [], ◌∷◌, ◌++◌}
 use lib.ListN.{length, take, drop, length-append, length-replicate, length-take}
@@ -13,12 +13,12 @@ use Rattle.layout.specs.Layout.{name_field, name_bytes, lead_bytes}
 pub shown_short : (name : List ℕ) {shown : List ℕ} → shown ≡ take name_field (drop 0 name) → length shown ≤ name_field
 shown_short name h = let e = ap length h ∙ length-take name_field (drop 0 name) in omega arith
 
-pub name_put : (out name : List ℕ) {shown o₁ o₂ : List ℕ} → shown ≡ take name_field (drop 0 name) → o₁ ≡ sets out 10 shown
-    → o₂ ≡ sets o₁ (10 + length shown) (zeros (name_field - length shown)) → o₂ ≡ sets out 10 (name_bytes name)
-name_put out name {shown} h p q =
+pub name_put : (out name : List ℕ) {shown o : List ℕ} → shown ≡ take name_field (drop 0 name)
+    → o ≡ sets out 10 (shown ++ zeros (name_field - length shown)) → o ≡ sets out 10 (name_bytes name)
+name_put out name {shown} h p =
     let e = ap length h ∙ length-take name_field name in
     let f : name_field - length shown ≡ name_field - length name = omega arith in
-    behind out 10 shown (zeros (name_field - length shown)) p q refl ∙ rw (f, h)
+    p ∙ rw (f, h)
 
 pub name_length : (name : List ℕ) → length (name_bytes name) ≡ name_field
 name_length name =

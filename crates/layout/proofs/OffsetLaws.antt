@@ -1,31 +1,32 @@
 -- Where data goes: the three ways of offset_for (offset_two, offset_four, offset_one).
-use Prim.Native.Nat.{ℕ, ◌+◌, ◌-◌, ◌*◌, ◌/◌, ◌≤◌}
+use Prim.Native.Nat.{ℕ, ◌+◌, ◌*◌, ◌/◌, ◌%◌, ◌≤◌, ◌<◌}
 use mathlib.Core.Path.{◌≡◌, refl}
 use mathlib.Core.Bool.{Bool, true, false, cond, ◌||◌}
 use lib.Dec.{eqb}
 use native.Mathlib.Omega.{arith}
 use borrow.Author.Tests.{ne_eqb}
-use Rattle.entries.specs.declared.types.ElementSize.TheVariants.{Bytes, ToZero, Unlawful}
+use Rattle.entries.specs.declared.types.ElementSize.TheVariants.{Bytes, ToZero}
 use Rattle.entries.specs.Types.{element_size}
 use Rattle.layout.specs.Layout.{align_for, offset_for}
+use Rattle.std.specs.Prelude.{Some, None}
 
 two : (ty at : ℕ) → ty ≡ 3 → (at + 1) / 2 * 2 ≡ offset_for ty at
 unfolding offset_for element_size
 two ty at h = rw h
 
-pub offset_two : (ty at : ℕ) → ty ≡ 3
-    → ((at + 1) / 2 * 2 ≡ offset_for ty at) × (at ≤ (at + 1) / 2 * 2) × ((at + 1) / 2 * 2 ≤ at + 3)
-offset_two ty at h = (two ty at h, omega arith, omega arith)
+pub offset_two : (ty at : ℕ) {r : ℕ} → ty ≡ 3 → at ≤ r → r < at + 2 → r % 2 ≡ 0
+    → (r ≡ offset_for ty at) × (at ≤ r) × (r ≤ at + 3)
+offset_two ty at h l m q = let k = two ty at h in (omega arith, l, omega arith)
 
 four : (ty at : ℕ) → ty ≡ 4 → (at + 3) / 4 * 4 ≡ offset_for ty at
 unfolding offset_for element_size
 four ty at h = rw h
 
-pub offset_four : (ty at : ℕ) → ty ≡ 4
-    → ((at + 3) / 4 * 4 ≡ offset_for ty at) × (at ≤ (at + 3) / 4 * 4) × ((at + 3) / 4 * 4 ≤ at + 3)
-offset_four ty at h = (four ty at h, omega arith, omega arith)
+pub offset_four : (ty at : ℕ) {r : ℕ} → ty ≡ 4 → at ≤ r → r < at + 4 → r % 4 ≡ 0
+    → (r ≡ offset_for ty at) × (at ≤ r) × (r ≤ at + 3)
+offset_four ty at h l m q = let k = four ty at h in (omega arith, l, omega arith)
 
-others : (a d : Bool) (at : ℕ) → at ≡ align_for (cond a (Bytes 1) (cond d ToZero Unlawful)) at
+others : (a d : Bool) (at : ℕ) → at ≡ align_for (cond a (Some (Bytes 1)) (cond d (Some ToZero) None)) at
 others true d at = omega arith
 others false true at = refl
 others false false at = refl

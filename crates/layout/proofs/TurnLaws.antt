@@ -1,6 +1,8 @@
 -- A walk over a lent list that lays its entries out, turn by turn: the row that is left (row_turn), an entry's data and where
--- it goes (bytes_here, start_here, stop_here), the store from there on (store_here, store_length) and its end (end_turn, end_spent).
-use Prim.Native.Nat.{ℕ, ◌+◌, ◌-◌, ◌*◌, ◌≤◌, ◌<◌}
+-- it goes (bytes_here, start_here, stop_here), the store from there on (store_here, store_length) and its end (end_turn, end_spent); the place in the row as a
+-- number of the entries that are left (place_first, place_next).
+use Prim.Native.Nat.{ℕ, ◌+◌, ◌-◌, ◌*◌, ◌/◌, ◌≤◌, ◌<◌}
+use native.Mathlib.Nat.{sub-zero}
 use mathlib.Core.Path.{◌≡◌, sym, ap, ◌∙◌}
 use mathlib.Core.List.{List, ◌++◌}
 use lib.ListN.{length, take, drop, length-append, length-replicate, length-take, length-drop}
@@ -75,3 +77,20 @@ module _ (list row : List ℕ) (n i at filled : ℕ) where
   end_spent inv l =
       let k = ap length (store_none filled) in
       sym (inv ∙ rw (entries_none list row n i at l) (omega arith))
+
+-- where an entry's data starts in the row: behind that of the entries before it
+abbrev pub place_of : List ℕ → List ℕ → ℕ → ℕ → ℕ
+place_of list row n i = length row - sizes_from list (n - i) i
+
+pub place_first : (list row : List ℕ) {n : ℕ} → n ≡ length list / 16 → sizes_from list (length list / 16) 0 ≡ length row
+    → (sizes_from list (n - 0) 0 ≤ length row) × (place_of list row n 0 ≡ 0)
+place_first list row e h = rw (e, sub-zero, h) (omega arith, omega arith)
+
+module _ (list row : List ℕ) (n i : ℕ) (w : 16 * n ≤ length list) (s : sizes_from list (n - i) i ≤ length row) (l : i < n)
+    {e : ListRecord} (q : e ≡ record_shown list i) where
+  pub placed : place_of list row n i + sizes_from list (n - i) i ≡ length row
+  placed = omega arith
+
+  pub place_next : (sizes_from list (n - (i + 1)) (i + 1) ≤ length row)
+      × (place_of list row n (i + 1) ≡ place_of list row n i + e.size)
+  place_next = let k = sizes_here list row n i (place_of list row n i) 0 w placed l q in (omega arith, omega arith)

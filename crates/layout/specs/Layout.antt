@@ -1,10 +1,10 @@
 -- Requests 1 and 3: the package that is written. Data in list order, packed, with zero bytes for alignment and before H.
-use Rattle.std.specs.Prelude.{ℕ, ◌+◌, ◌-◌, List, [], ◌∷◌, ◌++◌, length, take}
+use Rattle.std.specs.Prelude.{ℕ, ◌+◌, ◌-◌, List, [], ◌∷◌, ◌++◌, length, take, Option, Some, None}
 use Rattle.format.specs.Sizes.{lead_size}
 use Rattle.format.specs.Places.{align_up}
 use Rattle.format.specs.declared.records.IndexRecord.{IndexRecord}
 use Rattle.entries.specs.declared.types.ElementSize.{ElementSize}
-use Rattle.entries.specs.declared.types.ElementSize.TheVariants.{Bytes, ToZero, Unlawful}
+use Rattle.entries.specs.declared.types.ElementSize.TheVariants.{Bytes, ToZero}
 use Rattle.entries.specs.Types.{element_size}
 use Rattle.message_digest.specs.Md5.{digest}
 use Rattle.put.specs.Puts.{bytes_of, four_bytes, zeros}
@@ -12,10 +12,10 @@ use Rattle.lists.specs.Lists.{ListEntry}
 use Rattle.reasons.specs.Reasons.{record_of, with_own}
 
 -- where data of a type goes, at or after a place of the store: a multiple of a fixed size; anywhere for strings
-abbrev pub align_for : ElementSize → ℕ → ℕ
-align_for (Bytes n) at = align_up n at
-align_for ToZero at = at
-align_for Unlawful at = at
+abbrev pub align_for : Option ElementSize → ℕ → ℕ
+align_for (Some (Bytes n)) at = align_up n at
+align_for (Some ToZero) at = at
+align_for None at = at
 
 unfoldable pub offset_for : ℕ → ℕ → ℕ
 offset_for ty at = align_for (element_size ty) at

@@ -7,14 +7,17 @@ ghost use Rattle.layout.specs.Layout.{offset_for, name_bytes, lead_bytes};
 
 use format::Lead;
 
+// How many bytes the lead has for a name.
+const NAME_FIELD: usize = 66;
+
 // Where data of a type goes, at or after a place of the store.
 pub fn offset_for(ty: u32, filled: u32) -> usize
     ensures { (result ≡ offset_for ty filled) × (filled ≤ result) × (result ≤ filled + 3) }
 {
     let at = filled as usize;
     match ty {
-        3 => (at + 1) / 2 * 2,
-        4 => (at + 3) / 4 * 4,
+        3 => at.next_multiple_of(2),
+        4 => at.next_multiple_of(4),
         _ => at,
     }
 }
@@ -23,10 +26,8 @@ pub fn offset_for(ty: u32, filled: u32) -> usize
 fn put_name(out: &mut [u8], name: &[u8])
     ensures { out.new ≡ sets out.old 10 (name_bytes name.now) }
 {
-    let shown = be::part(name, 0, 66);
-    let len = shown.len();
-    put::bytes(out, Lead::NAME, shown);
-    put::zeros(out, Lead::NAME + len, 66 - len);
+    let shown = be::part(name, 0, NAME_FIELD);
+    put::run(out, Lead::NAME, shown, NAME_FIELD - shown.len());
 }
 
 // Puts the lead at the front.

@@ -1,99 +1,75 @@
--- Laws of `lines_from`, one for each way through a turn: turn, ends, spent. Over a part of the catalogue it finds what `lines_of`
--- finds in the list of the lines that the edition has: of_signature, of_header.
-use Prim.Native.Nat.{ℕ, suc, ◌+◌, ◌-◌, ◌≤◌, ◌<◌}
-use mathlib.Core.Path.{◌≡◌, refl, sym, ap, ◌∙◌}
-use mathlib.Core.List.{List, [], ◌∷◌}
+-- Laws of `lines_of` over the lines that an edition has: a line is not tried (skipped), passes (turn) or decides (ends), or none
+-- is left (spent). The catalogue's parts: of_signature, of_header.
+use Prim.Native.Nat.{ℕ, ◌+◌, ◌-◌, ◌≤◌, ◌<◌}
+use mathlib.Core.Path.{◌≡◌, refl, sym, ◌∙◌}
+use mathlib.Core.List.{List, ◌∷◌}
 use mathlib.Core.Bool.{Bool, true, false, cond}
-use lib.ListN.{length, get_or}
-use lib.Dec.{leb}
-use native.Mathlib.Omega.{arith}
-use Rattle.format.specs.declared.verdict.Verdict.{Verdict}
-use Rattle.format.specs.declared.verdict.Verdict.TheVariants.{Pass, Fail}
-use Rattle.format.specs.Verdicts.{both}
+use lib.ListN.{length, get_or, take, drop}
+use Rattle.std.proofs.lemmas.List.{at_drop_more, at_drop_all}
+use Rattle.format.specs.Verdicts.{both, Verdict, pass}
+use Rattle.format.specs.declared.verdict.Refusal.{Refusal}
 use Rattle.format.proofs.VerdictLaws.{both_pass, both_fail}
 use Rattle.catalogue.specs.declared.Line.{Line}
-use Rattle.catalogue.specs.Words.{optional, required}
-use Rattle.catalogue.specs.Catalogue.{signature_lines, header_lines, signature_count, line_count, line_of, line_at, in_edition}
-use Rattle.catalogue.specs.Catalogue.{is_required, is_as_line}
+use Rattle.catalogue.specs.declared.Status.TheVariants.{Optional, Required}
+use Rattle.catalogue.specs.Catalogue.{signature_lines, header_lines, catalogue, signature_count, line_count}
+use Rattle.catalogue.specs.Catalogue.{no_line, in_edition, must_be_present, is_required, is_as_line}
 use Rattle.catalogue.specs.Lists.{had_line, lines_had, signature_of, header_of}
-use Rattle.catalogue.proofs.CatalogueLaws.{length_signature, length_header, signature_at, header_at_lem}
-use Rattle.index.specs.declared.Tagged.{Tagged}
-use Rattle.index.specs.declared.Tagged.TheVariants.{Present, Absent}
 use Rattle.tags.specs.Tags.{Look}
-use Rattle.lines.specs.Lines.{line_check_as, line_check, line_if, lines_from, lines_of}
-
-module _ (line : ℕ → Line) (has_line : Line → Bool) (look : Look) where
-  none : (i : ℕ) → lines_from line has_line look 0 i ≡ Pass
-  unfolding lines_from
-  none i = refl
-
-  step : (n i : ℕ) → lines_from line has_line look (suc n) i
-      ≡ both (line_if has_line look (line i)) (lines_from line has_line look n (i + 1))
-  unfolding lines_from
-  step n i = refl
-
-  unrolled : (to i : ℕ) → i < to → lines_from line has_line look (to - i) i
-      ≡ both (line_if has_line look (line i)) (lines_from line has_line look (to - (i + 1)) (i + 1))
-  unrolled to i l =
-      let k : to - i ≡ suc (to - (i + 1)) = omega arith in
-      rw k (step (to - (i + 1)) i)
-
-  -- in the shape of what is known in a turn: v is what the run began with, r what the line's check found
-  module _ (to i : ℕ) {v : Verdict} (inv : v ≡ lines_from line has_line look (to - i) i) where
-    module _ {l : Line} {r : Verdict} (q : l ≡ line i) (p : r ≡ line_if has_line look l) (h : i < to) where
-      here : r ≡ line_if has_line look (line i)
-      here = p ∙ ap (line_if has_line look) q
-
-      pub turn : r ≡ Pass → v ≡ lines_from line has_line look (to - (i + 1)) (i + 1)
-      turn k = inv ∙ unrolled to i h ∙ both_pass (sym here ∙ k)
-
-      pub ends : {number place : ℕ} → r ≡ Fail number place → Fail number place ≡ v
-      ends k = sym (inv ∙ unrolled to i h ∙ both_fail _ (sym here ∙ k))
-
-    pub spent : to ≤ i → Pass ≡ v
-    unfolding lines_from
-    spent l = let k : to - i ≡ 0 = omega arith in sym (rw k at inv)
+use Rattle.lines.specs.Lines.{line_check_as, line_check, lines_of}
+use Rattle.std.specs.Prelude.{Option, Some, None, Err}
+use Rattle.format.specs.declared.records.IndexRecord.{IndexRecord}
 
 -- 14 and 15 do not ask with which edition a line begins
-same_required : (b : Bool) → leb required (cond b required optional) ≡ b
+same_required : (b : Bool) → must_be_present (cond b Required Optional) ≡ b
 same_required true = refl
 same_required false = refl
 
-same_check : (line : Line) (found : Tagged) → line_check_as line found ≡ line_check_as (had_line line) found
+same_check : (line : Line) (found : Option IndexRecord) → line_check_as (had_line line) found ≡ line_check_as line found
 unfolding is_as_line
-same_check line Absent = rw (same_required (is_required line))
-same_check line (Present e) = refl
+same_check line None = rw (same_required (is_required line))
+same_check line (Some e) = refl
 
--- a table that has the lines of these rows from number i on
-abbrev Has : (ℕ → Line) → List (List ℕ) → ℕ → Type 0
-Has line rows i = (n k : ℕ) → n ≡ i + k → k < length rows → line n ≡ line_of (get_or rows k [])
+-- what the lines from number i on come to, by what is known in a turn: b is whether the edition has line i, r what its check found
+module _ (edition : ℕ) (look : Look) (lines : List Line) (i : ℕ) {v : Verdict}
+    (inv : v ≡ lines_of look (lines_had edition (drop i lines)))
+  where
+    module _ {b : Bool} (p : b ≡ in_edition edition (get_or lines i no_line)) (l : i < length lines) where
+      next : lines_of look (lines_had edition (drop i lines))
+          ≡ lines_of look (lines_had edition (get_or lines i no_line ∷ drop (i + 1) lines))
+      next = at_drop_more (λ (rest : List Line). lines_of look (lines_had edition rest)) lines i no_line l
 
-module _ (edition : ℕ) (look : Look) where
-  as_list : (line : ℕ → Line) (rows : List (List ℕ)) (i : ℕ) → Has line rows i
-      → lines_from line (in_edition edition) look (length rows) i ≡ lines_of look (lines_had edition rows)
-  unfolding lines_of lines_had
-  as_list line [] i f = none line (in_edition edition) look i
-  as_list line (a ∷ rest) i f =
-      let behind = as_list line rest (i + 1) (λ n k e h. f n (suc k) (omega arith) (omega arith)) in
-      step line (in_edition edition) look (length rest) i
-      ∙ rw (f i 0 (omega arith) (omega arith)) (go (in_edition edition (line_of a)) behind)
-    where
-      go : (b : Bool) → lines_from line (in_edition edition) look (length rest) (i + 1) ≡ lines_of look (lines_had edition rest)
-          → both (cond b (line_check look (line_of a)) Pass) (lines_from line (in_edition edition) look (length rest) (i + 1))
-          ≡ lines_of look (cond b (had_line (line_of a) ∷ lines_had edition rest) (lines_had edition rest))
-      go true h = rw (same_check (line_of a) (look (line_of a).tag), h)
-      go false h = both_pass refl ∙ h
+      pub skipped : b ≡ false → v ≡ lines_of look (lines_had edition (drop (i + 1) lines))
+      unfolding lines_had
+      skipped t = inv ∙ next ∙ rw (sym p ∙ t) refl
 
-  pub of_signature : {r : Verdict} → r ≡ lines_from line_at (in_edition edition) look (signature_count - 0) 0
-      → r ≡ lines_of look (signature_of edition)
-  of_signature p = p ∙ (rw length_signature at (as_list line_at signature_lines 0 has))
-    where
-      has : Has line_at signature_lines 0
-      has n k e h = let m : n ≡ k = omega arith in rw m (signature_at k (omega (arith, length_signature)))
+      module _ (t : b ≡ true) {r : Verdict} (q : r ≡ line_check look (get_or lines i no_line)) where
+        tried : v ≡ both r (lines_of look (lines_had edition (drop (i + 1) lines)))
+        unfolding lines_of lines_had
+        tried = inv ∙ next ∙ rw (sym p ∙ t, same_check (get_or lines i no_line) (look (get_or lines i no_line).tag), q) refl
 
-  pub of_header : {r : Verdict} → r ≡ lines_from line_at (in_edition edition) look (line_count - signature_count) signature_count
-      → r ≡ lines_of look (header_of edition)
-  of_header p = p ∙ (rw length_header at (as_list line_at header_lines signature_count has))
-    where
-      has : Has line_at header_lines signature_count
-      has n k e h = let m : n - signature_count ≡ k = omega arith in rw m at (header_at_lem n (omega arith))
+        pub turn : r ≡ pass → v ≡ lines_of look (lines_had edition (drop (i + 1) lines))
+        turn k = tried ∙ both_pass k
+
+        pub ends : {e : Refusal} → r ≡ Err e → Err e ≡ v
+        ends k = sym (tried ∙ both_fail _ k)
+
+    pub spent : length lines ≤ i → pass ≡ v
+    unfolding lines_of lines_had
+    spent l = sym (inv ∙ at_drop_all (λ (rest : List Line). lines_of look (lines_had edition rest)) lines i l)
+
+-- the parts of the catalogue
+signature_part : take signature_count catalogue ≡ signature_lines
+unfolding catalogue signature_lines
+signature_part = refl
+
+header_part : take (line_count - signature_count) (drop signature_count catalogue) ≡ header_lines
+unfolding catalogue signature_lines header_lines
+header_part = refl
+
+module _ (edition : ℕ) (look : Look) {table : List Line} {v : Verdict} (e : table ≡ catalogue) where
+  pub of_signature : v ≡ lines_of look (lines_had edition (take signature_count table)) → v ≡ lines_of look (signature_of edition)
+  of_signature p = p ∙ rw (e, signature_part) refl
+
+  pub of_header : v ≡ lines_of look (lines_had edition (take (line_count - signature_count) (drop signature_count table)))
+      → v ≡ lines_of look (header_of edition)
+  of_header p = p ∙ rw (e, header_part) refl

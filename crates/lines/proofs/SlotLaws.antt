@@ -26,7 +26,7 @@ unfolding lines_of
 of_same look [] h = refl
 of_same look (line ∷ rest) h = rw (h line (inl refl), of_same look rest (λ other l. h other (inr l)))
 
-had_slots : (edition : ℕ) (rows : List (List ℕ)) → every tag_has_slot rows ≡ true
+had_slots : (edition : ℕ) (rows : List Line) → every tag_has_slot rows ≡ true
     → (line : Line) → Listed line (lines_had edition rows) → tag_has_slot line ≡ true
 had_slots edition rows t =
     each_had edition (λ (line : Line). tag_has_slot line ≡ true) rows (λ i h e. every_at tag_has_slot rows t i h)

@@ -1,6 +1,6 @@
 -- The entries of a lent list, turn by turn: entries_step, entries_none, and how many there are, entries_total. Their sizes
 -- together: sizes_step, sizes_turn, sizes_past, sizes_spent. An entry's 16
--- bytes: record_read, record_past, record_whole.
+-- bytes: record_whole.
 use Prim.Native.Nat.{ℕ, zero, suc, ◌+◌, ◌-◌, ◌*◌, ◌≤◌, ◌<◌}
 use mathlib.Core.Path.{◌≡◌, refl, sym, ap, ◌∙◌}
 use mathlib.Core.List.{List, [], ◌∷◌}
@@ -8,8 +8,7 @@ use mathlib.Core.Bool.{Bool, true, false}
 use lib.ListN.{length}
 use lib.Dec.{eqb}
 use native.Mathlib.Omega.{arith}
-use borrow.Author.Tests.{eq-eqb, ne_eqb, eqb-true, eqb-false, le-leb, lt-leb}
-use Rattle.be.specs.Numbers.{be32_at}
+use borrow.Author.Tests.{eq-eqb, ne_eqb, eqb-true, eqb-false, le-leb}
 use Rattle.lists.specs.declared.ListRecord.{ListRecord}
 use Rattle.lists.specs.Lists.{list_record_at, record_shown, size_at, entry_at, entries_from, sizes_from}
 
@@ -38,18 +37,7 @@ module _ (list row : List ℕ) where
   entries_total zero i at = refl
   entries_total (suc n) i at = ap suc (entries_total n (i + 1) (at + size_at list i))
 
--- an entry's 16 bytes, which the list has or has not
-pub record_read : (list : List ℕ) (i : ℕ) {tag ty count size : ℕ} → tag ≡ be32_at list (16 * i) → ty ≡ be32_at list (16 * i + 4)
-    → count ≡ be32_at list (16 * i + 8) → size ≡ be32_at list (16 * i + 12) → 16 * i + 16 ≤ length list
-    → ◌≡◌ {A = ListRecord} (record { tag = tag; ty = ty; count = count; size = size }) (record_shown list i)
-unfolding record_shown
-record_read list i p q r s l = rw (le-leb (16 * i + 16) (length list) l, p, q, r, s)
-
-pub record_past : (list : List ℕ) (i : ℕ) → length list < 16 * i + 16
-    → ◌≡◌ {A = ListRecord} (record { tag = 0; ty = 0; count = 0; size = 0 }) (record_shown list i)
-unfolding record_shown
-record_past list i l = rw (lt-leb (16 * i + 16) (length list) l)
-
+-- an entry's 16 bytes, which the list has
 pub record_whole : (list : List ℕ) (n i : ℕ) {e : ListRecord} → 16 * n ≤ length list → i < n → e ≡ record_shown list i
     → e ≡ list_record_at list i
 unfolding record_shown

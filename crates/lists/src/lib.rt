@@ -1,12 +1,11 @@
 // A list of entries as it is lent: 16 bytes an entry, and the entries' data in a row.
-#![tactic(auto)]
+#![tactic(auto, unfolding(crate::specs::Lists::record_shown))]
 
-ghost use Rattle.std.specs.Prelude.{◌≡◌, ◌+◌, ◌≤◌, length};
-ghost use Rattle.be.specs.Numbers.{be32_at};
+ghost use Rattle.std.specs.Prelude.{◌≡◌, ◌/◌, length};
 ghost use Rattle.lists.specs.Lists.{record_shown, is_whole, sizes_meet};
 
 // The 16 bytes of an entry: its tag, type and count, and the size of its data.
-#[derive(Clone, Copy)]
+#[derive(Clone, Copy, Default)]
 pub struct ListRecord {
     pub tag: u32,
     pub ty: u32,
@@ -18,56 +17,57 @@ impl ListRecord {
     pub const SIZE: usize = 16;
 }
 
-// The 32-bit number at a place of a list that has it whole.
-fn number(list: &[u8], at: usize) -> u32
-    requires { at + 4 ≤ length list.now }
-    ensures { result ≡ be32_at list.now at }
-{
-    be::join32(list[at], list[at + 1], list[at + 2], list[at + 3])
+// A list, and the row of its entries' data.
+#[derive(Clone, Copy)]
+pub struct Lent<'a> {
+    pub list: &'a [u8],
+    pub row: &'a [u8],
 }
 
-// The 16 bytes of entry `i`; zeros where the list does not have it whole.
-pub fn entry(list: &[u8], i: u32) -> ListRecord
-    ensures { result ≡ record_shown list.now i }
-{
-    let at = ListRecord::SIZE * i as usize;
-    if list.len() < at + ListRecord::SIZE {
-        return ListRecord {
-            tag: 0,
-            ty: 0,
-            count: 0,
-            size: 0,
-        };
+impl Lent<'_> {
+    // How many whole entries there are.
+    pub fn count(&self) -> usize
+        ensures { result ≡ length self.now.list.now / 16 }
+    {
+        self.list.len() / ListRecord::SIZE
     }
-    ListRecord {
-        tag: number(list, at),
-        ty: number(list, at + 4),
-        count: number(list, at + 8),
-        size: number(list, at + 12),
-    }
-}
 
-// Whether a list is whole entries.
-pub fn is_whole(list: &[u8]) -> bool
-    ensures { result ≡ is_whole list.now }
-{
-    list.len() % ListRecord::SIZE == 0
-}
-
-// Whether the sizes of a list's entries together are the row's length.
-pub fn sizes_meet(list: &[u8], row: &[u8]) -> bool
-    ensures { result ≡ sizes_meet list.now row.now }
-{
-    let n = list.len() / ListRecord::SIZE;
-    let mut left = row.len();
-    let mut i = 0;
-    while i < n {
-        let size = be::be32(list, ListRecord::SIZE * i + 12) as usize;
-        if left < size {
-            return false;
+    // The 16 bytes of entry `i`; zeros where the list does not have it whole.
+    pub fn entry(&self, i: u32) -> ListRecord
+        ensures { result ≡ record_shown self.now.list.now i }
+    {
+        let at = ListRecord::SIZE * i as usize;
+        if self.list.len() < at + ListRecord::SIZE {
+            return ListRecord::default();
         }
-        left -= size;
-        i += 1;
+        ListRecord {
+            tag: be::be32(self.list, at),
+            ty: be::be32(self.list, at + 4),
+            count: be::be32(self.list, at + 8),
+            size: be::be32(self.list, at + 12),
+        }
     }
-    left == 0
+
+    // Whether the list is whole entries.
+    pub fn is_whole(&self) -> bool
+        ensures { result ≡ is_whole self.now.list.now }
+    {
+        self.list.len() % ListRecord::SIZE == 0
+    }
+
+    // Whether the sizes of the entries together are the row's length.
+    pub fn sizes_meet(&self) -> bool
+        ensures { result ≡ sizes_meet self.now.list.now self.now.row.now }
+    {
+        let n = self.count();
+        let mut left = self.row.len();
+        for i in 0..n {
+            let size = be::be32(self.list, ListRecord::SIZE * i + 12) as usize;
+            if left < size {
+                return false;
+            }
+            left -= size;
+        }
+        left == 0
+    }
 }

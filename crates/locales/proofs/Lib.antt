@@ -1,2 +1,1 @@
-pub mod LocaleLaws
 pub mod OrderLaws

@@ -7,37 +7,41 @@ use lib.Dec.{eqb, leb}
 use native.Mathlib.Omega.{arith}
 use borrow.Author.Tests.{eqb-true, eqb-false, leb-true, leb-false}
 use Rattle.format.specs.declared.records.IndexRecord.{IndexRecord}
-use Rattle.format.specs.declared.verdict.Verdict.TheVariants.{Pass, Fail}
-use Rattle.format.specs.Verdicts.{check}
+use Rattle.format.specs.Verdicts.{check, pass, refusal}
+use Rattle.format.proofs.VerdictLaws.{refusal_same}
 use Rattle.format.proofs.FirstLaws.{pass_not_fail, run_passes, run_fails}
 use Rattle.entries.specs.Entries.{record_at}
 use Rattle.locales.specs.Locales.{locale_check}
 use Rattle.locales.specs.Order.{Offends, LocalesPass, LocalesInOrder}
+use Rattle.std.specs.Prelude.{Err}
 
 module _ (most : ℕ) (e : IndexRecord) where
-  record_passes : (locale_check most e ≡ Pass) ↔ (Offends most e → ⊥)
+  record_passes : (locale_check most e ≡ pass) ↔ (Offends most e → ⊥)
   unfolding locale_check check
   record_passes = go (eqb e.ty 9) (leb e.count most) refl refl
     where
       go : (a b : Bool) → eqb e.ty 9 ≡ a → leb e.count most ≡ b
-          → (check (not a || b) 17 e.tag Pass ≡ Pass) ↔ (Offends most e → ⊥)
+          → (check (not a || b) 17 e.tag pass ≡ pass) ↔ (Offends most e → ⊥)
       go false b p q = (λ h o. eqb-false _ _ p o.0, λ h. refl)
       go true true p q = (λ h o. let l = leb-true e.count most q in let m = o.1 in omega arith, λ h. refl)
       go true false p q = (λ h. absurd (pass_not_fail (sym h)), λ h. absurd (h (eqb-true _ _ p, leb-false _ _ q)))
 
   record_fails : {number tag : ℕ}
-      → (locale_check most e ≡ Fail number tag) ↔ ((number ≡ 17) × (e.tag ≡ tag) × Offends most e)
+      → (locale_check most e ≡ Err (refusal number tag)) ↔ ((number ≡ 17) × (e.tag ≡ tag) × Offends most e)
   unfolding locale_check check
   record_fails {number} {tag} = go (eqb e.ty 9) (leb e.count most) refl refl
     where
       go : (a b : Bool) → eqb e.ty 9 ≡ a → leb e.count most ≡ b
-          → (check (not a || b) 17 e.tag Pass ≡ Fail number tag) ↔ ((number ≡ 17) × (e.tag ≡ tag) × Offends most e)
+          → (check (not a || b) 17 e.tag pass ≡ Err (refusal number tag)) ↔ ((number ≡ 17) × (e.tag ≡ tag) × Offends most e)
       go false b p q = (λ h. absurd (pass_not_fail h), λ h. absurd (eqb-false _ _ p h.2.0))
       go true true p q = (
         λ h. absurd (pass_not_fail h),
         λ h. let l = leb-true e.count most q in let m = h.2.1 in absurd (omega arith),
       )
-      go true false p q = (λ h. (cc, cc, (eqb-true _ _ p, leb-false _ _ q)), λ h. cc (h.0, h.1))
+      go true false p q = (
+        λ h. let r = refusal_same h in (sym r.0, r.1, (eqb-true _ _ p, leb-false _ _ q)),
+        λ h. rw (h.0, h.1),
+      )
 
 pub locales_pass : LocalesPass
 locales_pass s header most =

@@ -1,10 +1,10 @@
 -- Request 2: "place: the first offending tag in index order". What that comes to.
-use Rattle.std.specs.Prelude.{ℕ, ◌<◌, ◌≡◌, ◌↔◌, List}
+use Rattle.std.specs.Prelude.{ℕ, ◌<◌, ◌≡◌, ◌↔◌, List, Err}
 use Rattle.format.specs.declared.section.Section.{Section}
 use Rattle.format.specs.declared.records.IndexRecord.{IndexRecord}
-use Rattle.format.specs.declared.verdict.Verdict.TheVariants.{Pass, Fail}
 use Rattle.entries.specs.Entries.{record_at}
 use Rattle.locales.specs.Locales.{locales_check}
+use Rattle.format.specs.Verdicts.{pass, refusal}
 
 -- more translated strings than so many
 abbrev pub Offends : ℕ → IndexRecord → Type 0
@@ -21,9 +21,9 @@ pub record FirstOffends (s : List ℕ) (header : Section) (most tag : ℕ) : Typ
 abbrev pub LocalesPass : Type 0
 LocalesPass =
     (s : List ℕ) (header : Section) (most : ℕ)
-    → (locales_check s header most ≡ Pass) ↔ ((i : ℕ) → i < header.nindex → Offends most (record_at s header i) → ⊥)
+    → (locales_check s header most ≡ pass) ↔ ((i : ℕ) → i < header.nindex → Offends most (record_at s header i) → ⊥)
 
 abbrev pub LocalesInOrder : Type 0
 LocalesInOrder =
     (s : List ℕ) (header : Section) (most number tag : ℕ)
-    → (locales_check s header most ≡ Fail number tag) ↔ ((number ≡ 17) × FirstOffends s header most tag)
+    → (locales_check s header most ≡ Err (refusal number tag)) ↔ ((number ≡ 17) × FirstOffends s header most tag)

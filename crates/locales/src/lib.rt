@@ -1,38 +1,31 @@
 // Translated strings, no more than there are locales: the last group of check 17.
-#![tactic(auto)]
+#![tactic(auto, unfolding(format::specs::Verdicts::check, crate::specs::Locales::locale_check))]
 
 ghost use Rattle.std.specs.Prelude.{◌≡◌};
-ghost use Rattle.entries.specs.Entries.{record_at};
 ghost use Rattle.locales.specs.Locales.{locale_check, locales_check};
 
-use format::{IndexRecord, Section, Verdict};
+use format::{IndexRecord, Refusal, Section, Verdict};
 
-// Index record `i`: where its strings are translated, they are at most `most`.
-fn record_check(s: &[u8], header: Section, most: u32, i: u32) -> Verdict
-    ensures { result ≡ locale_check most (record_at s.now header i) }
+// An index record: where its strings are translated, they are at most `most`.
+fn record_check(e: IndexRecord, most: u32) -> Verdict
+    ensures { result ≡ locale_check most e }
 {
-    let n = header.nindex;
-    if header.number(s, n, i, IndexRecord::TYPE) != 9 {
-        return Verdict::Pass;
+    if e.ty == 9 && most < e.count {
+        return Err(Refusal {
+            number: 17,
+            place: e.tag,
+        });
     }
-    if header.number(s, n, i, IndexRecord::COUNT) <= most {
-        return Verdict::Pass;
-    }
-    Verdict::Fail(17, header.number(s, n, i, IndexRecord::TAG))
+    Ok(())
 }
 
 // The same for each index record in turn.
 pub fn check(s: &[u8], header: Section, most: u32) -> Verdict
     ensures { result ≡ locales_check s.now header most }
 {
-    let n = header.nindex;
-    let mut i = 0;
-    while i < n {
-        let v = record_check(s, header, most, i);
-        if let Verdict::Fail(number, place) = v {
-            return Verdict::Fail(number, place);
-        }
-        i += 1;
+    for i in 0..header.nindex {
+        let e = header.record(s, header.nindex, i);
+        record_check(e, most)?;
     }
-    Verdict::Pass
+    Ok(())
 }

@@ -7,22 +7,19 @@ use mathlib.Core.List.{List, []}
 use lib.ListN.{length}
 use native.Mathlib.Omega.{arith}
 use Rattle.be.proofs.ByteLaws.{length_part}
-use Rattle.format.specs.declared.verdict.Verdict.{Verdict}
-use Rattle.format.specs.declared.verdict.Verdict.TheVariants.{Pass, Fail}
 use Rattle.format.specs.Places.{section_end}
-use Rattle.format.specs.Verdicts.{number_of}
+use Rattle.format.specs.Verdicts.{number_of, Verdict, refusal}
 use Rattle.index.specs.declared.Entry.{Entry}
-use Rattle.index.specs.declared.Found.{Found}
-use Rattle.index.specs.declared.Found.TheVariants.{At, Nothing}
 use Rattle.structure.specs.Sound.{SoundEntry}
 use Rattle.index.specs.Lookup.{find_in}
-use Rattle.lookups.specs.declared.Sought.{Sought}
-use Rattle.lookups.specs.declared.Sought.TheVariants.{Here, Refused}
 use Rattle.package.specs.Package.{sound_check, structure_of}
 use Rattle.lookups.specs.Lookup.{sought_as, sought, entry_bytes, sought_bytes, sought_answer}
 use Rattle.lookups.specs.Theorems.{AnswersAgree}
 use Rattle.package.proofs.NumberLaws.{sound_number}
 use Rattle.lookups.proofs.FoundLaws.{structure_fits_lem, record_of_found, found_sound}
+use Rattle.std.specs.Prelude.{Option, Some, None, Result, Ok, Err}
+use Rattle.format.specs.declared.verdict.Refusal.{Refusal}
+use Rattle.format.proofs.VerdictLaws.{refusal_same}
 
 pub not_empty : (s : List ℕ) (len : ℕ) (entry : Entry) → len ≤ length s → SoundEntry s len entry
     → entry_bytes s entry ≢ []
@@ -34,23 +31,23 @@ not_empty s len entry l t q =
     omega arith
 
 -- what is sought is sound where it is found, and has a number where it is refused
-pub agree : (s : List ℕ) (len : ℕ) (x : Sought)
-    → ((entry : Entry) → x ≡ Here entry → (len ≤ length s) × SoundEntry s len entry)
-    → ((number place : ℕ) → x ≡ Refused number place → 1 ≤ number)
+pub agree : (s : List ℕ) (len : ℕ) (x : Result Entry Refusal)
+    → ((entry : Entry) → x ≡ Ok entry → (len ≤ length s) × SoundEntry s len entry)
+    → ((number place : ℕ) → x ≡ Err (refusal number place) → 1 ≤ number)
     → (number_of (sought_answer x) ≡ 0) ↔ (sought_bytes s x ≢ [])
-agree s len (Here entry) h k = let t = h entry refl in (λ e. not_empty s len entry t.0 t.1, λ e. refl)
-agree s len (Refused number place) h k =
-    let l = k number place refl in
+agree s len (Ok entry) h k = let t = h entry refl in (λ e. not_empty s len entry t.0 t.1, λ e. refl)
+agree s len (Err refused) h k =
+    let l = k refused.number refused.place refl in
     (λ e. absurd (omega arith), λ e. absurd (e refl))
 
-pub sought_number : (s : List ℕ) (which tag ty number place : ℕ) → sought s which tag ty ≡ Refused number place → 1 ≤ number
+pub sought_number : (s : List ℕ) (which tag ty number place : ℕ) → sought s which tag ty ≡ Err (refusal number place) → 1 ≤ number
 unfolding sought
 sought_number s which tag ty number place h = go (sound_check s) refl (find_in s (structure_of s which) tag ty) h
   where
-    go : (v : Verdict) → sound_check s ≡ v → (f : Found) → sought_as v f ≡ Refused number place → 1 ≤ number
-    go Pass e (At entry) q = let z : ◌≡◌ {A = ℕ} 0 1 = cc in absurd (omega arith)
-    go Pass e Nothing q = let n : 25 ≡ number = cc in omega arith
-    go (Fail n p) e f q = let m : n ≡ number = cc in let t = sound_number s e in omega arith
+    go : (v : Verdict) → sound_check s ≡ v → (f : Option Entry) → sought_as v f ≡ Err (refusal number place) → 1 ≤ number
+    go (Ok _) e (Some entry) q = let z : ◌≡◌ {A = ℕ} 0 1 = cc in absurd (omega arith)
+    go (Ok _) e None q = let n = (refusal_same q).0 in omega arith
+    go (Err refused) e f q = let m = (refusal_same q).0 in let t = sound_number s e in omega arith
 
 pub answers_agree : AnswersAgree
 answers_agree s which tag ty =

@@ -1,46 +1,29 @@
 // Look-ups of entries: check 25.
-#![tactic(auto)]
+#![tactic(auto, unfolding(package::specs::Package::opened, crate::specs::Lookup::sought))]
 
 ghost use Rattle.std.specs.Prelude.{◌≡◌};
 ghost use Rattle.index.specs.Lookup.{find_in, found_bytes};
 ghost use Rattle.lookups.specs.Lookup.{sought, sought_bytes, find_bytes, find_answer};
 
-use format::{Answer, Section};
-use index::{Entry, Found};
-use package::{Opened, open, section_for};
-
-// What a look-up comes to: an entry, or the first check that failed and its place.
-#[derive(Clone, Copy)]
-pub enum Sought {
-    Here(Entry),
-    Refused(u32, u32),
-}
+use format::{Answer, Refusal, Section};
+use index::Entry;
 
 // Checks 2 to 13, 28 and 25: the entry of a structure with the tag and the type.
-pub fn seek(pkg: &[u8], which: u32, tag: u32, ty: u32) -> Sought
+pub fn seek(pkg: &[u8], which: u32, tag: u32, ty: u32) -> Result<Entry, Refusal>
     ensures { result ≡ sought pkg.now which tag ty }
 {
-    let opened = open(pkg);
-    match opened {
-        Opened::Unsound(number, place) => Sought::Refused(number, place),
-        Opened::Sound(signature, header) => {
-            let section = section_for(which, signature, header);
-            let found = index::find(pkg, section, tag, ty);
-            match found {
-                Found::At(entry) => Sought::Here(entry),
-                Found::Nothing => Sought::Refused(25, 0),
-            }
-        }
-    }
+    let opened = package::open(pkg)?;
+    let found = index::find(pkg, opened.section(which), tag, ty);
+    found.ok_or(Refusal::new(25, 0))
 }
 
 // The bytes of what was sought: the part of the package that is the data, or an empty part.
-pub fn shown(pkg: &[u8], found: Sought) -> &[u8]
+pub fn shown(pkg: &[u8], found: Result<Entry, Refusal>) -> &[u8]
     ensures { result.now ≡ sought_bytes pkg.now found }
 {
     match found {
-        Sought::Here(entry) => entry.at.part(pkg, entry.extent),
-        Sought::Refused(_, _) => &pkg[..0],
+        Ok(entry) => entry.at.part(pkg, entry.extent),
+        Err(_) => &pkg[..0],
     }
 }
 
@@ -48,10 +31,9 @@ pub fn shown(pkg: &[u8], found: Sought) -> &[u8]
 pub fn find_in(pkg: &[u8], section: Section, tag: u32, ty: u32) -> &[u8]
     ensures { result.now ≡ found_bytes pkg.now (find_in pkg.now section tag ty) }
 {
-    let found = index::find(pkg, section, tag, ty);
-    match found {
-        Found::At(entry) => entry.at.part(pkg, entry.extent),
-        Found::Nothing => &pkg[..0],
+    match index::find(pkg, section, tag, ty) {
+        Some(entry) => entry.at.part(pkg, entry.extent),
+        None => &pkg[..0],
     }
 }
 
@@ -66,12 +48,6 @@ pub fn find(pkg: &[u8], which: u32, tag: u32, ty: u32) -> &[u8]
 pub fn find_answer(pkg: &[u8], which: u32, tag: u32, ty: u32) -> Answer
     ensures { result ≡ find_answer pkg.now which tag ty }
 {
-    let found = seek(pkg, which, tag, ty);
-    match found {
-        Sought::Here(entry) => {
-            let place = entry.at.get() as u32;
-            Answer::Done(place)
-        }
-        Sought::Refused(number, place) => Answer::Refused(number, place),
-    }
+    let entry = seek(pkg, which, tag, ty)?;
+    Ok(entry.at.get() as u32)
 }

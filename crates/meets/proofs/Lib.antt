@@ -1,4 +1,3 @@
-pub mod FlagLaws
 pub mod MeetLaws
 pub mod RelationLaws
 pub mod MeetTheorems

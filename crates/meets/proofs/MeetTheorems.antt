@@ -1,6 +1,6 @@
 -- The theorems of specs/Theorems: meets_says, meets_else, meets_refused.
 use Prim.Native.Nat.{ℕ, ◌<◌}
-use mathlib.Core.Path.{◌≡◌, refl, sym, ap, ap₂, ◌∙◌}
+use mathlib.Core.Path.{◌≡◌, refl, sym, ap, ◌∙◌}
 use mathlib.Core.List.{List, [], ◌∷◌, ◌++◌}
 use mathlib.Core.Bool.{Bool, true, false, cond}
 use lib.Dec.{eqb}
@@ -9,19 +9,15 @@ use borrow.Author.Tests.{eq-eqb, eqb-true}
 use Rattle.be.specs.Numbers.{be32_at}
 use Rattle.be.proofs.ByteLaws.{be32_part}
 use Rattle.format.specs.declared.section.Section.{Section}
-use Rattle.format.specs.declared.verdict.Answer.TheVariants.{Refused}
 use Rattle.entries.specs.Types.{element_size}
 use Rattle.entries.specs.Entries.{record_at}
 use Rattle.index.specs.declared.Entry.{Entry}
-use Rattle.index.specs.declared.Found.{Found}
-use Rattle.index.specs.declared.Found.TheVariants.{At, Nothing}
 use Rattle.index.specs.Lookup.{find_in, entry_at}
 use Rattle.package.specs.Package.{header_at}
 use Rattle.lookups.specs.Lookup.{sought, sought_bytes}
 use Rattle.lookups.proofs.FoundLaws.{record_of_found}
 use Rattle.elements.specs.Elements.{element_of, find_element_bytes}
 use Rattle.required.specs.declared.Requirement.{Requirement}
-use Rattle.required.specs.declared.Requirement.TheVariants as requirement
 use Rattle.required.specs.Version.{text_of, requirement_for}
 use Rattle.required.specs.Theorems.{IsName}
 use Rattle.required.proofs.MatchLaws.{arrays_of, refused_25, refused_first}
@@ -30,6 +26,9 @@ use Rattle.version.specs.Version.{by_text}
 use Rattle.meets.specs.Meets.{meets_by, yes_or_no, decided_by, decided, meets_answer}
 use Rattle.meets.specs.Theorems.{Flagged, FirstName, flags_shown, MeetsSays, MeetsElse, MeetsRefused}
 use Rattle.meets.proofs.RelationLaws.{by_relation, by_flags, is_yes, is_no, not_yes}
+use Rattle.std.specs.Prelude.{Option, Some, None, Result, Ok, Err}
+use Rattle.format.specs.Verdicts.{refusal}
+use Rattle.format.specs.declared.verdict.Refusal.{Refusal}
 
 -- flags and version of number k, as element look-ups show them
 module _ (s : List ℕ) (w : Flagged s) (k : ℕ) (below : k < (record_at s (header_at s) w.arrays.names).count) where
@@ -92,8 +91,8 @@ meets_says s name given k w first =
 
 -- a requirement that was found, with flags that aren't int32 of its count
 module _ (s name given : List ℕ) (none : Flagged s → (k : ℕ) → IsName s name k → ⊥)
-    {header : Section} {versions : Entry} {k : ℕ} (h : requirement_for s name ≡ requirement.Beside header versions k) where
-  no_counts : (flags' : Entry) → find_in s (header_at s) 1048 4 ≡ At flags' → flags'.count ≡ versions.count → ⊥
+    {header : Section} {versions : Entry} {k : ℕ} (h : requirement_for s name ≡ Ok (record { header = header; versions = versions; number = k })) where
+  no_counts : (flags' : Entry) → find_in s (header_at s) 1048 4 ≡ Some flags' → flags'.count ≡ versions.count → ⊥
   unfolding sought
   no_counts flags' f e =
       let q = arrays_of s name h in
@@ -104,13 +103,13 @@ module _ (s name given : List ℕ) (none : Flagged s → (k : ℕ) → IsName s 
       let g = ap (λ (x : Entry). x.count) r.3 in
       none (record { arrays = a.0; flags = r.1; typed = r.2; counts = sym g ∙ e ∙ d ∙ sym c }) k (required_of s name h).1
 
-  else_decided : (f : Found) → find_in s (header_at s) 1048 4 ≡ f → decided s given (header_at s) versions k ≡ Refused 25 0
+  else_decided : (f : Option Entry) → find_in s (header_at s) 1048 4 ≡ f → decided s given (header_at s) versions k ≡ Err (refusal 25 0)
   unfolding decided
-  else_decided Nothing f = rw f
-  else_decided (At flags') f = rw f (go (eqb flags'.count versions.count) refl)
+  else_decided None f = rw f
+  else_decided (Some flags') f = rw f (go (eqb flags'.count versions.count) refl)
     where
       go : (b : Bool) → eqb flags'.count versions.count ≡ b
-          → cond b (decided_by s given flags' versions k) (Refused 25 0) ≡ Refused 25 0
+          → cond b (decided_by s given flags' versions k) (Err (refusal 25 0)) ≡ Err (refusal 25 0)
       go true t = absurd (no_counts flags' f (eqb-true _ _ t))
       go false t = refl
 
@@ -118,11 +117,11 @@ pub meets_else : MeetsElse
 unfolding meets_answer
 meets_else s name given p none = go (requirement_for s name) refl
   where
-    go : (x : Requirement) → requirement_for s name ≡ x → meets_answer s name given ≡ Refused 25 0
-    go (requirement.Refused number place) h =
-        let e = refused_25 s name p number place h in
-        rw h (ap₂ Refused e.0 e.1)
-    go (requirement.Beside header versions k) h =
+    go : (x : Result Requirement Refusal) → requirement_for s name ≡ x → meets_answer s name given ≡ Err (refusal 25 0)
+    go (Err refused) h =
+        let e = refused_25 s name p refused.number refused.place h in
+        rw h (rw (e.0, e.1))
+    go (Ok wanted) h =
         rw (h, ← (arrays_of s name h).here) (else_decided s name given none h _ refl)
 
 pub meets_refused : MeetsRefused

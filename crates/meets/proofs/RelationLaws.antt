@@ -6,11 +6,11 @@ use mathlib.Core.Logic.{◌⊎◌, inl, inr}
 use mathlib.Core.Bool.{Bool, true, false, cond, ◌||◌}
 use native.Mathlib.Omega.{arith}
 use borrow.Author.Tests.{eq-eqb, eqb-true, eqb-false}
-use Rattle.format.specs.declared.verdict.Answer.TheVariants.{Done}
-use Rattle.runs.specs.declared.Order.{Order}
-use Rattle.runs.specs.declared.Order.TheVariants.{Older, Same, Newer}
+use Rattle.std.specs.declared.cmp.Ordering.{Ordering}
+use Rattle.std.specs.declared.cmp.Ordering.TheVariants as order
 use Rattle.meets.specs.Meets.{is_set, is_flagged, meets_by, yes_or_no}
 use Rattle.meets.specs.Theorems.{Less, Greater, Equal}
+use Rattle.std.specs.Prelude.{Ok}
 
 -- a flag and its bit
 set_bit : (flags flag : ℕ) → is_set flags flag ≡ true → flags / flag % 2 ≡ 1
@@ -22,22 +22,22 @@ unfolding is_set
 bit_set flags flag h = eq-eqb _ _ h
 
 -- a flagged relation, or none
-abbrev pub FlaggedOrNone : ℕ → Order → Type 0
+abbrev pub FlaggedOrNone : ℕ → Ordering → Type 0
 FlaggedOrNone flags o =
-    (Less flags × (o ≡ Older)) ⊎ ((Greater flags × (o ≡ Newer))
-    ⊎ ((Equal flags × (o ≡ Same)) ⊎ ((Less flags → ⊥) × (Greater flags → ⊥) × (Equal flags → ⊥))))
+    (Less flags × (o ≡ order.Less)) ⊎ ((Greater flags × (o ≡ order.Greater))
+    ⊎ ((Equal flags × (o ≡ order.Equal)) ⊎ ((Less flags → ⊥) × (Greater flags → ⊥) × (Equal flags → ⊥))))
 
 unset : (flags flag : ℕ) → is_set flags flag ≡ false → flags / flag % 2 ≡ 1 → ⊥
 unfolding is_set
 unset flags flag h e = eqb-false _ _ h e
 
 module _ (flags : ℕ) where
-  relation : (o : Order) → is_flagged flags o ≡ true → FlaggedOrNone flags o
-  relation Older h = inl (set_bit flags 2 h, refl)
-  relation Same h = inr (inr (inl (set_bit flags 8 h, refl)))
-  relation Newer h = inr (inl (set_bit flags 4 h, refl))
+  relation : (o : Ordering) → is_flagged flags o ≡ true → FlaggedOrNone flags o
+  relation order.Less h = inl (set_bit flags 2 h, refl)
+  relation order.Equal h = inr (inr (inl (set_bit flags 8 h, refl)))
+  relation order.Greater h = inr (inl (set_bit flags 4 h, refl))
 
-  pub by_relation : (o : Order) → meets_by flags o ≡ true → FlaggedOrNone flags o
+  pub by_relation : (o : Ordering) → meets_by flags o ≡ true → FlaggedOrNone flags o
   unfolding meets_by
   by_relation o h = go (is_set flags 2) (is_set flags 4) (is_set flags 8) refl refl refl h
     where
@@ -48,7 +48,7 @@ module _ (flags : ℕ) where
       go false false true p q r h = relation o h
       go false false false p q r h = inr (inr (inr (unset flags 2 p, unset flags 4 q, unset flags 8 r)))
 
-  flagged_by : (o : Order) (b : Bool) → is_flagged flags o ≡ true → cond b (is_flagged flags o) true ≡ true
+  flagged_by : (o : Ordering) (b : Bool) → is_flagged flags o ≡ true → cond b (is_flagged flags o) true ≡ true
   flagged_by o true h = h
   flagged_by o false h = refl
 
@@ -65,7 +65,7 @@ module _ (flags : ℕ) where
   any : Bool
   any = is_set flags 2 || (is_set flags 4 || is_set flags 8)
 
-  pub by_flags : (o : Order) → FlaggedOrNone flags o → meets_by flags o ≡ true
+  pub by_flags : (o : Ordering) → FlaggedOrNone flags o → meets_by flags o ≡ true
   unfolding meets_by any
   by_flags o (inl h) = flagged_by o any (ap (is_flagged flags) h.1 ∙ bit_set flags 2 h.0)
   by_flags o (inr (inl h)) = flagged_by o any (ap (is_flagged flags) h.1 ∙ bit_set flags 4 h.0)
@@ -73,14 +73,14 @@ module _ (flags : ℕ) where
   by_flags o (inr (inr (inr h))) = rw (none_by h.0 h.1 h.2)
 
 -- yes or no
-pub is_yes : (b : Bool) → yes_or_no b ≡ Done 1 → b ≡ true
+pub is_yes : (b : Bool) → yes_or_no b ≡ Ok 1 → b ≡ true
 is_yes true h = refl
 is_yes false h = let z : ◌≡◌ {A = ℕ} 0 1 = cc in absurd (omega arith)
 
-pub is_no : (b : Bool) → yes_or_no b ≡ Done 0 → b ≡ true → ⊥
+pub is_no : (b : Bool) → yes_or_no b ≡ Ok 0 → b ≡ true → ⊥
 is_no true h e = let z : ◌≡◌ {A = ℕ} 1 0 = cc in omega arith
 is_no false h e = let z : ◌≡◌ {A = ℕ} 0 1 = cc in omega arith
 
-pub not_yes : (b : Bool) → (b ≡ true → ⊥) → yes_or_no b ≡ Done 0
+pub not_yes : (b : Bool) → (b ≡ true → ⊥) → yes_or_no b ≡ Ok 0
 not_yes true n = absurd (n refl)
 not_yes false n = refl

@@ -1,6 +1,6 @@
 -- Document 02, request 6: the flags in all their combinations, as one list that computes. Bit 0 and bits above 3 don't count.
 use Rattle.std.specs.Prelude.{ℕ, List, [], ◌∷◌, Bool, true, false, ◌&&◌, not, T}
-use Rattle.runs.specs.declared.Order.TheVariants.{Older, Same, Newer}
+use Rattle.std.specs.declared.cmp.Ordering.TheVariants as order
 use Rattle.meets.specs.Meets.{meets_by}
 
 -- flags, and whether an older, the same and a newer text meet them
@@ -37,8 +37,8 @@ agree false b = not b
 
 abbrev pub is_right : Example → Bool
 is_right e =
-    agree (meets_by e.flags Older) e.older && agree (meets_by e.flags Same) e.same
-    && agree (meets_by e.flags Newer) e.newer
+    agree (meets_by e.flags order.Less) e.older && agree (meets_by e.flags order.Equal) e.same
+    && agree (meets_by e.flags order.Greater) e.newer
 
 abbrev pub all_right : List Example → Bool
 all_right [] = true

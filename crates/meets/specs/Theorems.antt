@@ -1,17 +1,16 @@
 -- Document 02, request 6, on required names, in the words of look-ups and element look-ups. Each is proved in proofs/ under its
 -- name in small letters: MeetsSays as meets_says.
-use Rattle.std.specs.Prelude.{ℕ, ◌/◌, ◌%◌, ◌<◌, ◌≡◌, ◌↔◌, ◌⊎◌, List, [], ◌∷◌, ◌++◌}
+use Rattle.std.specs.Prelude.{ℕ, ◌/◌, ◌%◌, ◌<◌, ◌≡◌, ◌↔◌, ◌⊎◌, List, [], ◌∷◌, ◌++◌, Ok, Err}
 use Rattle.be.specs.Numbers.{be32_at}
-use Rattle.format.specs.declared.verdict.Verdict.TheVariants.{Pass, Fail}
-use Rattle.format.specs.declared.verdict.Answer.TheVariants.{Done, Refused}
 use Rattle.entries.specs.Entries.{record_at}
 use Rattle.package.specs.Package.{sound_check, header_at}
 use Rattle.lookups.specs.Theorems.{RecordFor}
 use Rattle.elements.specs.Elements.{find_element_bytes}
 use Rattle.required.specs.Theorems.{StringArrays, IsName}
-use Rattle.runs.specs.declared.Order.TheVariants.{Older, Same, Newer}
+use Rattle.std.specs.declared.cmp.Ordering.TheVariants as order
 use Rattle.version.specs.Version.{by_text}
 use Rattle.meets.specs.Meets.{meets_answer}
+use Rattle.format.specs.Verdicts.{pass, refusal}
 
 -- checks 2 to 13 and 28 pass, 1049 and 1050 are string arrays of one count, and 1048 is int32 of 1049's count
 pub record Flagged (s : List ℕ) : Type 0 where
@@ -42,8 +41,8 @@ Equal flags = flags / 8 % 2 ≡ 1
 -- a given text meets a required one: a flagged relation holds between them, or none is flagged
 abbrev pub Meets : ℕ → List ℕ → List ℕ → Type 0
 Meets flags given required =
-    (Less flags × (by_text given required ≡ Older)) ⊎ ((Greater flags × (by_text given required ≡ Newer))
-    ⊎ ((Equal flags × (by_text given required ≡ Same)) ⊎ ((Less flags → ⊥) × (Greater flags → ⊥) × (Equal flags → ⊥))))
+    (Less flags × (by_text given required ≡ order.Less)) ⊎ ((Greater flags × (by_text given required ≡ order.Greater))
+    ⊎ ((Equal flags × (by_text given required ≡ order.Equal)) ⊎ ((Less flags → ⊥) × (Greater flags → ⊥) × (Equal flags → ⊥))))
 
 -- With the name's flags and version beside its first place among the names, the answer is yes exactly when the given text meets
 -- the required one, and else no. The required text is the string that is shown, without its zero byte.
@@ -51,17 +50,17 @@ abbrev pub MeetsSays : Type 0
 MeetsSays =
     (s name given : List ℕ) (k : ℕ) → Flagged s → FirstName s name k
     → (required : List ℕ) × (find_element_bytes s 1 1050 8 k ≡ required ++ (0 ∷ []))
-    × ((meets_answer s name given ≡ Done 1) ↔ Meets (flags_shown s k) given required)
-    × ((meets_answer s name given ≡ Done 0) ↔ (Meets (flags_shown s k) given required → ⊥))
+    × ((meets_answer s name given ≡ Ok 1) ↔ Meets (flags_shown s k) given required)
+    × ((meets_answer s name given ≡ Ok 0) ↔ (Meets (flags_shown s k) given required → ⊥))
 
 -- Where checks 2 to 13 and 28 pass, and the name is not among the names or the three are not as they should be, it is 25 at 0.
 abbrev pub MeetsElse : Type 0
 MeetsElse =
-    (s name given : List ℕ) → sound_check s ≡ Pass → (Flagged s → (k : ℕ) → IsName s name k → ⊥)
-    → meets_answer s name given ≡ Refused 25 0
+    (s name given : List ℕ) → sound_check s ≡ pass → (Flagged s → (k : ℕ) → IsName s name k → ⊥)
+    → meets_answer s name given ≡ Err (refusal 25 0)
 
 -- Where one of those checks fails, it is the answer.
 abbrev pub MeetsRefused : Type 0
 MeetsRefused =
-    (s name given : List ℕ) (number place : ℕ) → sound_check s ≡ Fail number place
-    → meets_answer s name given ≡ Refused number place
+    (s name given : List ℕ) (number place : ℕ) → sound_check s ≡ Err (refusal number place)
+    → meets_answer s name given ≡ Err (refusal number place)

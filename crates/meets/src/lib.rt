@@ -1,8 +1,8 @@
 // Whether a version text meets what is required for a package name.
-#![tactic(auto)]
+#![tactic(auto, unfolding(crate::specs::Meets::is_set, crate::specs::Meets::meets_by, crate::specs::Meets::decided, crate::specs::Meets::meets_answer))]
 
 ghost use Rattle.std.specs.Prelude.{◌≡◌, ◌<◌};
-ghost use Rattle.format.specs.declared.verdict.Verdict.TheVariants.{Pass};
+ghost use Rattle.format.specs.Verdicts.{pass};
 ghost use Rattle.format.specs.Sizes.{package_limit};
 ghost use Rattle.structure.specs.Sound.{SoundEntry};
 ghost use Rattle.package.specs.Package.{sound_check, header_at};
@@ -10,10 +10,9 @@ ghost use Rattle.required.specs.Version.{text_of};
 ghost use Rattle.meets.specs.Meets.{is_set, is_flagged, meets_by, decided_by, decided, meets_answer};
 
 use elements::element;
-use format::{Answer, Section};
-use index::{Entry, Found};
-use required::Requirement;
-use runs::Order;
+use format::{Answer, Refusal, Section};
+use index::Entry;
+use std::cmp::Ordering;
 
 // The tag of the required names' flags and its type, and the flags of a relation.
 #[derive(Drop)]
@@ -40,41 +39,32 @@ fn is_set(flags: u32, flag: u32) -> bool
 }
 
 // Whether the relation that a given text has to the required one is flagged.
-fn is_flagged(flags: u32, order: Order) -> bool
+fn is_flagged(flags: u32, order: Ordering) -> bool
     ensures { result ≡ is_flagged flags order }
 {
     match order {
-        Order::Older => is_set(flags, Sense::LESS),
-        Order::Same => is_set(flags, Sense::EQUAL),
-        Order::Newer => is_set(flags, Sense::GREATER),
+        Ordering::Less => is_set(flags, Sense::LESS),
+        Ordering::Equal => is_set(flags, Sense::EQUAL),
+        Ordering::Greater => is_set(flags, Sense::GREATER),
     }
 }
 
 // Whether a text meets a requirement: its relation is flagged, or no relation is.
-pub fn meets_by(flags: u32, order: Order) -> bool
+pub fn meets_by(flags: u32, order: Ordering) -> bool
     ensures { result ≡ meets_by flags order }
 {
-    if is_set(flags, Sense::LESS) {
-        return is_flagged(flags, order);
+    if is_set(flags, Sense::LESS) || is_set(flags, Sense::GREATER) || is_set(flags, Sense::EQUAL) {
+        is_flagged(flags, order)
+    } else {
+        true
     }
-    if is_set(flags, Sense::GREATER) {
-        return is_flagged(flags, order);
-    }
-    if is_set(flags, Sense::EQUAL) {
-        return is_flagged(flags, order);
-    }
-    true
 }
 
 // A single string without its zero byte.
 fn text(pkg: &[u8], string: Entry) -> &[u8]
     ensures { result.now ≡ text_of pkg.now string }
 {
-    if string.extent == 0 {
-        return &pkg[..0];
-    }
-    let extent = string.extent - 1;
-    string.at.part(pkg, extent)
+    string.at.part(pkg, string.extent.saturating_sub(1))
 }
 
 // Whether a text meets the requirement of a number: its flags, and its version.
@@ -86,23 +76,25 @@ fn by_number(pkg: &[u8], version: &[u8], flags: Entry, versions: Entry, k: u32) 
     let bits = flag.at.number(pkg);
     let beside = element(pkg, versions, k);
     let order = version::compare(version, text(pkg, beside));
-    if meets_by(bits, order) {
-        return Answer::Done(1);
-    }
-    Answer::Done(0)
+    if meets_by(bits, order) { Ok(1) } else { Ok(0) }
 }
+
+// No version is required for a name, or its flags are not as they should be.
+const NOT_REQUIRED: Refusal = Refusal {
+    number: 25,
+    place: 0,
+};
 
 // The same among a header's entries, where the flags are int32 of the versions' count.
 fn decide(pkg: &[u8], version: &[u8], header: Section, versions: Entry, k: u32) -> Answer
-    requires { (sound_check pkg.now ≡ Pass) × (header ≡ header_at pkg.now) × (SoundEntry pkg.now package_limit versions) }
+    requires { (sound_check pkg.now ≡ pass) × (header ≡ header_at pkg.now) × (SoundEntry pkg.now package_limit versions) }
     ensures { result ≡ decided pkg.now version.now header versions k }
 {
-    let found = index::find(pkg, header, Sense::TAG, Sense::INT32);
-    let Found::At(flags) = found else {
-        return Answer::Refused(25, 0);
+    let Some(flags) = index::find(pkg, header, Sense::TAG, Sense::INT32) else {
+        return Err(NOT_REQUIRED);
     };
     if flags.count != versions.count {
-        return Answer::Refused(25, 0);
+        return Err(NOT_REQUIRED);
     }
     by_number(pkg, version, flags, versions, k)
 }
@@ -112,9 +104,6 @@ fn decide(pkg: &[u8], version: &[u8], header: Section, versions: Entry, k: u32) 
 pub fn meets(pkg: &[u8], name: &[u8], version: &[u8]) -> Answer
     ensures { result ≡ meets_answer pkg.now name.now version.now }
 {
-    let wanted = required::seek(pkg, name);
-    match wanted {
-        Requirement::Beside(header, versions, k) => decide(pkg, version, header, versions, k),
-        Requirement::Refused(number, place) => Answer::Refused(number, place),
-    }
+    let wanted = required::seek(pkg, name)?;
+    decide(pkg, version, wanted.header, wanted.versions, wanted.number)
 }

@@ -1,13 +1,9 @@
--- What the contracts of the last block or two cite: no part of RFC 1321.
-use Rattle.std.specs.Prelude.{ℕ, ◌+◌, ◌-◌, ◌/◌, ◌%◌, List, ◌∷◌, ◌++◌, length, drop, replicate}
+-- What the contract of the last block or two cites: no part of RFC 1321.
+use Rattle.std.specs.Prelude.{ℕ, ◌+◌, ◌-◌, ◌/◌, ◌%◌, List, ◌++◌, length, drop}
 use Rattle.words.specs.declared.State.{State}
 use Rattle.rounds.specs.Table.{table}
 use Rattle.rounds.specs.Rounds.{blocks}
 use Rattle.message_digest.specs.Md5.{padding_bytes, length_bytes}
-
--- the last block or two while they are made: what is left of the message, 128, and zeros to 128 bytes
-unfoldable pub opening : List ℕ → List ℕ
-opening left = left ++ 128 ∷ replicate (127 - length left) 0
 
 -- the blocks of what is left after the whole ones, with the padding
 unfoldable pub finished : List ℕ → State → State

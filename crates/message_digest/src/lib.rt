@@ -1,52 +1,28 @@
 // The MD5 digest of any bytes (RFC 1321).
 #![tactic(auto)]
 
-ghost use Rattle.std.specs.Prelude.{◌≡◌, ◌+◌, ◌<◌, ◌≤◌, ◌++◌, length, take, drop};
+ghost use Rattle.std.specs.Prelude.{◌≡◌};
 ghost use Rattle.rounds.specs.Table.{table};
 ghost use Rattle.message_digest.specs.Md5.{output, digest};
-ghost use Rattle.message_digest.specs.Ending.{opening, finished};
+ghost use Rattle.message_digest.specs.Ending.{finished};
 
 use words::State;
-
-// What is left of the message, 128, and zeros.
-fn opened(left: &[u8]) -> [u8; 128]
-    requires { length left.now < 64 }
-    ensures { result ≡ opening left.now }
-{
-    let mut last = [0u8; 128];
-    let n = left.len();
-    last[..n].copy_from_slice(left);
-    last[n] = 128;
-    last
-}
-
-// The eight bytes of a count put in at a place.
-fn closed(last: [u8; 128], count: [u8; 8], at: usize) -> [u8; 128]
-    requires { at ≤ 120 }
-    ensures { result ≡ take at last ++ (count ++ drop (at + 8) last) }
-{
-    let mut all = last;
-    let end = at + 8;
-    all[at..end].copy_from_slice(&count);
-    all
-}
 
 // What is left of the message after its whole blocks, and the padding: one block or two.
 fn finish(s: &[u8], t: &[u32; 64], q: State) -> State
     requires { t.now ≡ table }
     ensures { result ≡ finished s.now q }
 {
-    let n = s.len();
-    let rest = n % 64;
-    let from = n - rest;
+    let left = s.chunks_exact(64).remainder();
+    let rest = left.len();
+    let mut last = [0u8; 128];
+    last[..rest].copy_from_slice(left);
+    last[rest] = 128;
     let zeros = (119 - rest) % 64;
     let at = rest + 1 + zeros;
     let size = at + 8;
-    let bits = n % 2305843009213693952 * 8;
-    let count = words::low_first(bits as u64);
-    let left = &s[from..n];
-    let first = opened(left);
-    let last = closed(first, count, at);
+    let bits = (s.len() as u64).wrapping_mul(8);
+    last[at..size].copy_from_slice(&bits.to_le_bytes());
     rounds::run(&last[..size], t, q)
 }
 
@@ -54,31 +30,16 @@ fn finish(s: &[u8], t: &[u32; 64], q: State) -> State
 fn put(q: State) -> [u8; 16]
     ensures { result ≡ output q }
 {
-    let a = q.a;
-    let b = q.b;
-    let c = q.c;
-    let d = q.d;
-    [
-        (a % 256) as u8,
-        (a / 256 % 256) as u8,
-        (a / 256 / 256 % 256) as u8,
-        (a / 256 / 256 / 256 % 256) as u8,
-        (b % 256) as u8,
-        (b / 256 % 256) as u8,
-        (b / 256 / 256 % 256) as u8,
-        (b / 256 / 256 / 256 % 256) as u8,
-        (c % 256) as u8,
-        (c / 256 % 256) as u8,
-        (c / 256 / 256 % 256) as u8,
-        (c / 256 / 256 / 256 % 256) as u8,
-        (d % 256) as u8,
-        (d / 256 % 256) as u8,
-        (d / 256 / 256 % 256) as u8,
-        (d / 256 / 256 / 256 % 256) as u8,
-    ]
+    let mut out = [0u8; 16];
+    out[..4].copy_from_slice(&q.a.to_le_bytes());
+    out[4..8].copy_from_slice(&q.b.to_le_bytes());
+    out[8..12].copy_from_slice(&q.c.to_le_bytes());
+    out[12..].copy_from_slice(&q.d.to_le_bytes());
+    out
 }
 
 // The digest of a message: 16 bytes.
+#[tactic(auto, using(crate::proofs::EndingLaws::digest_is), unfolding(crate::specs::Md5::start))]
 pub fn md5(message: &[u8]) -> [u8; 16]
     ensures { result ≡ digest message.now }
 {

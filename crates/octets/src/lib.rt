@@ -7,7 +7,7 @@ ghost use Rattle.book.specs.Book.{dose_at};
 ghost use Rattle.buffer.specs.Buffer.{numbers_of};
 ghost use Rattle.octets.specs.Octets.{bytes_per_dose, number_bytes, with_dose_bytes};
 
-use book::{Dose, body_size, is_weighed};
+use book::{Dose, Weighings};
 
 // How many bytes a number takes in a buffer of bytes.
 pub const NUMBER_BYTES: usize = 4;
@@ -44,18 +44,12 @@ fn put_dose_bytes(out: &mut [u8], i: usize, book: &[u8], at: usize)
 {
     let len = book.len();
     let room = out.len();
-    if 7 <= len {
-        if at <= len - 7 {
-            if Dose::BYTES <= room {
-                if i <= room - Dose::BYTES {
-                    put_body(out, i, book, at);
-                    return;
-                }
-            }
-        }
+    if 7 <= len && at <= len - 7 && Dose::BYTES <= room && i <= room - Dose::BYTES {
+        put_body(out, i, book, at);
+        return;
     }
     let dose = Dose::at(book, at);
-    put::number(out, i, dose.oxide.0 as u32);
+    put::number(out, i, u32::from(dose.oxide.0));
     put::number(out, i + NUMBER_BYTES, dose.milligrams.0);
     put::number(out, i + LOT, dose.lot.0);
 }
@@ -64,18 +58,12 @@ fn put_dose_bytes(out: &mut [u8], i: usize, book: &[u8], at: usize)
 pub fn write_bytes(book: &[u8], out: &mut [u8])
     ensures { out.new ≡ with_dose_bytes book.now out.old }
 {
-    let mut at = 0;
     let mut i = 0;
-    while at < book.len() {
+    for at in Weighings::of(book) {
         if out.len() <= i {
             return;
         }
-        let here = at;
-        let kind = book[here];
-        at = here + 1 + body_size(kind);
-        if is_weighed(kind) {
-            put_dose_bytes(out, i, book, here);
-            i += Dose::BYTES;
-        }
+        put_dose_bytes(out, i, book, at);
+        i += Dose::BYTES;
     }
 }

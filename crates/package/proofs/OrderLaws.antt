@@ -7,15 +7,15 @@ use lib.ListN.{length}
 use native.Mathlib.Omega.{arith}
 use borrow.Author.Tests.{lt-leb}
 use Rattle.format.specs.declared.section.Structure.TheVariants.{Header}
-use Rattle.format.specs.declared.verdict.Verdict.TheVariants.{Fail}
 use Rattle.format.specs.Sizes.{header_record_size}
-use Rattle.format.specs.Verdicts.{both}
+use Rattle.format.specs.Verdicts.{both, refusal}
 use Rattle.format.proofs.VerdictLaws.{stopped, both_pass, both_fail}
 use Rattle.structure.specs.Structure.{header_check, structure_check}
 use Rattle.gap.proofs.OrderLaws.{gap_pass, gap_in_order}
 use Rattle.package.specs.Package.{signature_at, header_start, gap_in, structures_check, package_check, sound_check}
 use Rattle.package.specs.Order.{SignaturePasses, GapRefused, GapCut}
 use Rattle.package.proofs.NumberLaws.{failed}
+use Rattle.std.specs.Prelude.{Err}
 
 -- behind a signature that passes: the gap, then the header
 left : (s : List ℕ) → SignaturePasses s
@@ -29,7 +29,7 @@ gap_refused s place = (
   λ t. left s t.0 ∙ both_fail _ ((gap_in_order s _ _ _ _ _).1 (refl, t.1)),
 )
 
-no_room : (s : List ℕ) (len start : ℕ) → len < start + header_record_size → structure_check Header s len start ≡ Fail 5 start
+no_room : (s : List ℕ) (len start : ℕ) → len < start + header_record_size → structure_check Header s len start ≡ Err (refusal 5 start)
 unfolding structure_check header_check
 no_room s len start l = both_fail _ (sym (stopped _ (lt-leb _ _ l)))
 

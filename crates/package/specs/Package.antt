@@ -1,19 +1,17 @@
 -- Document 01, checks 2 to 13 over a whole package, and request 5: 28 between its two structures. The length is a number of its own.
-use Rattle.std.specs.Prelude.{ℕ, List, cond, length, eqb, leb}
+use Rattle.std.specs.Prelude.{ℕ, List, cond, length, eqb, leb, Result, Ok, Err}
 use Rattle.format.specs.declared.section.Section.{Section}
 use Rattle.format.specs.declared.section.Structure.{Structure}
 use Rattle.format.specs.declared.section.Structure.TheVariants.{Signature, Header}
-use Rattle.format.specs.declared.verdict.Verdict.{Verdict}
-use Rattle.format.specs.declared.verdict.Verdict.TheVariants.{Pass, Fail}
 use Rattle.format.specs.Sizes.{package_limit, lead_size}
 use Rattle.format.specs.Places.{section_end, align_up}
 use Rattle.format.specs.Lead.{lead_of}
-use Rattle.format.specs.Verdicts.{check, both}
+use Rattle.format.specs.Verdicts.{check, both, Verdict, pass}
 use Rattle.structure.specs.Structure.{section_at, structure_check}
 use Rattle.gap.specs.Gap.{gap_check}
 use Rattle.package.specs.declared.Opened.{Opened}
-use Rattle.package.specs.declared.Opened.TheVariants.{Sound, Unsound}
 use Rattle.package.specs.Lead.{lead_check}
+use Rattle.format.specs.declared.verdict.Refusal.{Refusal}
 
 -- 2 | package over 65,536 bytes | 0
 -- 3 | under 96 bytes | the length
@@ -21,7 +19,7 @@ unfoldable pub size_check : ℕ → Verdict
 size_check len =
     check (leb len package_limit) 2 0
     (check (leb lead_size len) 3 len
-    Pass)
+    pass)
 
 -- the signature starts at 96, the header at H, the first multiple of 8 at or after the signature's end
 abbrev pub signature_at : List ℕ → Section
@@ -62,21 +60,21 @@ abbrev pub structure_of : List ℕ → ℕ → Section
 structure_of s which = section_for which (signature_at s) (header_at s)
 
 -- a package that passed 2 to 13 and 28, by its two structures
-abbrev pub opened_as : Verdict → Section → Section → Opened
-opened_as Pass signature header = Sound signature header
-opened_as (Fail number place) signature header = Unsound number place
+abbrev pub opened_as : Verdict → Section → Section → Result Opened Refusal
+opened_as (Ok _) signature header = Ok (record { signature = signature; header = header })
+opened_as (Err e) signature header = Err e
 
-abbrev pub structures_opened : List ℕ → ℕ → Opened
+abbrev pub structures_opened : List ℕ → ℕ → Result Opened Refusal
 structures_opened s len = opened_as (structures_check s len) (signature_at s) (header_at s)
 
-unfoldable pub opened : List ℕ → Opened
+unfoldable pub opened : List ℕ → Result Opened Refusal
 opened s = opened_as (sound_check s) (signature_at s) (header_at s)
 
 -- the paper's number and place: 0 and 0 where all checks passed
-abbrev pub opened_number : Opened → ℕ
-opened_number (Sound signature header) = 0
-opened_number (Unsound number place) = number
+abbrev pub opened_number : Result Opened Refusal → ℕ
+opened_number (Ok structures) = 0
+opened_number (Err e) = e.number
 
-abbrev pub opened_place : Opened → ℕ
-opened_place (Sound signature header) = 0
-opened_place (Unsound number place) = place
+abbrev pub opened_place : Result Opened Refusal → ℕ
+opened_place (Ok structures) = 0
+opened_place (Err e) = e.place

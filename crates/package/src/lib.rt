@@ -1,5 +1,5 @@
 // A whole package: checks 2 to 4, and 2 to 13 and 28 in order.
-#![tactic(auto)]
+#![tactic(auto, unfolding(format::specs::Verdicts::both, format::specs::Verdicts::check, crate::specs::Lead::lead_check, crate::specs::Package::size_check, crate::specs::Package::structures_check, crate::specs::Package::package_check, crate::specs::Package::opened))]
 
 ghost use Rattle.std.specs.Prelude.{◌≡◌, ◌+◌, ◌≤◌};
 ghost use Rattle.format.specs.Sizes.{package_limit};
@@ -7,15 +7,27 @@ ghost use Rattle.format.specs.Places.{section_end};
 ghost use Rattle.package.specs.Lead.{lead_check};
 ghost use Rattle.package.specs.Package.{size_check, header_start, structures_opened, opened, section_for};
 
-use format::{Lead, Section, Structure, Verdict};
+use format::{Lead, Refusal, Section, Structure, Verdict};
 use places::{FileOffset, Start};
-use structure::Checked;
 
-// A package that passed checks 2 to 13 and 28, by its signature and its header, or the first check that failed and its place.
+// A package that passed checks 2 to 13 and 28, by its two structures.
 #[derive(Clone, Copy)]
-pub enum Opened {
-    Sound(Section, Section),
-    Unsound(u32, u32),
+pub struct Opened {
+    pub signature: Section,
+    pub header: Section,
+}
+
+impl Opened {
+    // One of the two structures: 0 is the signature, any other number the header.
+    pub fn section(self, which: u32) -> Section
+        ensures { result ≡ section_for which self.signature self.header }
+    {
+        if which == 0 {
+            self.signature
+        } else {
+            self.header
+        }
+    }
 }
 
 // Checks 2 and 3.
@@ -23,12 +35,12 @@ fn size_check(len: usize) -> Verdict
     ensures { result ≡ size_check len }
 {
     if FileOffset::LIMIT < len {
-        return Verdict::Fail(2, 0);
+        return Err(Refusal::new(2, 0));
     }
     if len < Lead::SIZE {
-        return Verdict::Fail(3, len as u32);
+        return Err(Refusal::new(3, len as u32));
     }
-    Verdict::Pass
+    Ok(())
 }
 
 // Check 4.
@@ -36,27 +48,27 @@ fn lead_check(lead: Lead) -> Verdict
     ensures { result ≡ lead_check lead }
 {
     if lead.magic != 0xEDAB_EEDB {
-        return Verdict::Fail(4, Lead::MAGIC as u32);
+        return Err(Refusal::new(4, Lead::MAGIC as u32));
     }
     if lead.major != 3 {
-        return Verdict::Fail(4, Lead::MAJOR as u32);
+        return Err(Refusal::new(4, Lead::MAJOR as u32));
     }
     if lead.minor != 0 {
-        return Verdict::Fail(4, Lead::MINOR as u32);
+        return Err(Refusal::new(4, Lead::MINOR as u32));
     }
     if lead.ty != 0 {
-        return Verdict::Fail(4, Lead::TYPE as u32);
+        return Err(Refusal::new(4, Lead::TYPE as u32));
     }
     if !lead.named {
-        return Verdict::Fail(4, Lead::NAME as u32);
+        return Err(Refusal::new(4, Lead::NAME as u32));
     }
     if lead.system != 1 {
-        return Verdict::Fail(4, Lead::SYSTEM as u32);
+        return Err(Refusal::new(4, Lead::SYSTEM as u32));
     }
     if lead.signature_type != 5 {
-        return Verdict::Fail(4, Lead::SIGNATURE_TYPE as u32);
+        return Err(Refusal::new(4, Lead::SIGNATURE_TYPE as u32));
     }
-    Verdict::Pass
+    Ok(())
 }
 
 // Where the header starts: the first multiple of 8 at or after the signature's end.
@@ -69,48 +81,23 @@ fn header_start(signature: Section) -> Start
 }
 
 // Checks 5 to 13 for the signature, 28 for the gap behind it, then 5 to 13 for the header.
-fn structures(pkg: &[u8], len: u32) -> Opened
+fn structures(pkg: &[u8], len: u32) -> Result<Opened, Refusal>
     requires { len ≤ package_limit }
     ensures { result ≡ structures_opened pkg.now len }
 {
-    let first = structure::check(Structure::Signature, pkg, len, Start::of(Lead::SIZE as u32));
-    match first {
-        Checked::Unsound(number, place) => Opened::Unsound(number, place),
-        Checked::Sound(signature) => {
-            let start = header_start(signature);
-            let v = gap::check(pkg, len, signature.end(), start);
-            if let Verdict::Fail(number, place) = v {
-                return Opened::Unsound(number, place);
-            }
-            let second = structure::check(Structure::Header, pkg, len, start);
-            match second {
-                Checked::Unsound(number, place) => Opened::Unsound(number, place),
-                Checked::Sound(header) => Opened::Sound(signature, header),
-            }
-        }
-    }
+    let signature = structure::check(Structure::Signature, pkg, len, Start::of(Lead::SIZE as u32))?;
+    let start = header_start(signature);
+    gap::check(pkg, len, signature.end(), start)?;
+    let header = structure::check(Structure::Header, pkg, len, start)?;
+    Ok(Opened { signature, header })
 }
 
 // Checks 2 to 13 and 28.
-pub fn open(pkg: &[u8]) -> Opened
+pub fn open(pkg: &[u8]) -> Result<Opened, Refusal>
     ensures { result ≡ opened pkg.now }
 {
     let len = pkg.len();
-    let size = size_check(len);
-    if let Verdict::Fail(number, place) = size {
-        return Opened::Unsound(number, place);
-    }
-    let lead = Lead::of(pkg);
-    let v = lead_check(lead);
-    if let Verdict::Fail(number, place) = v {
-        return Opened::Unsound(number, place);
-    }
+    size_check(len)?;
+    lead_check(Lead::of(pkg))?;
     structures(pkg, len as u32)
-}
-
-// One of two structures: 0 is the signature, any other number the header.
-pub fn section_for(which: u32, signature: Section, header: Section) -> Section
-    ensures { result ≡ section_for which signature header }
-{
-    if which == 0 { signature } else { header }
 }

@@ -7,8 +7,6 @@ ghost use Rattle.be.specs.Numbers.{be32_at};
 ghost use Rattle.strings.specs.Strings.{strings_from};
 ghost use Rattle.places.specs.Behind.{behind};
 
-use strings::Ending;
-
 // A place in the file.
 #[derive(Clone, Copy)]
 pub struct FileOffset(usize);
@@ -74,7 +72,7 @@ impl FileOffset {
     }
 
     // The place behind `count` strings of a package in a row from this place, all before `end`.
-    pub fn strings_end(self, pkg: &[u8], end: FileOffset, count: u32) -> Ending
+    pub fn strings_end(self, pkg: &[u8], end: FileOffset, count: u32) -> Option<usize>
         ensures { result ≡ strings_from pkg.now (end.0 - self.0) self.0 count }
     {
         strings::strings_end(pkg, self.0, end.0, count)

@@ -1,4 +1,4 @@
--- What 32 leaves (lent, room_ready); the plan for each way through decide (reasons_refuse, room_decides); and for callers
+-- What 32 leaves (lent, room_ready); the plan where 32 passes (room_decides); and for callers
 -- what a plan says: of a refusal (refused), and of sizes that fit (fitting, length_is, put_ready).
 use Prim.Native.Nat.{ℕ, ◌/◌, ◌≤◌}
 use mathlib.Core.Path.{◌≡◌, refl, sym, ap, ◌∙◌}
@@ -6,27 +6,26 @@ use mathlib.Core.List.{List}
 use lib.ListN.{length}
 use native.Mathlib.Omega.{arith}
 use borrow.Author.Tests.{leb-true}
-use Rattle.format.specs.declared.verdict.Verdict.{Verdict}
-use Rattle.format.specs.declared.verdict.Verdict.TheVariants.{Pass, Fail}
-use Rattle.format.proofs.VerdictLaws.{inverted, both_inverted, both_pass, both_fail}
+use Rattle.format.proofs.VerdictLaws.{inverted, both_inverted, both_pass}
 use Rattle.lists.specs.Lists.{sizes_from}
 use Rattle.lists.proofs.ListLaws.{entries_total}
 use Rattle.reasons.specs.Reasons.{reasons}
 use Rattle.reasons.proofs.RightLaws.{list_right, form_right}
 use Rattle.plan.specs.declared.Sizes.{Sizes}
-use Rattle.plan.specs.declared.Plan.{Plan}
-use Rattle.plan.specs.declared.Plan.TheVariants as plan
 use Rattle.plan.specs.Refusals.{room_check, written_of, write_check}
 use Rattle.plan.specs.Sizes.{Listed, sizes_of, plan_as, planned, decided}
 use Rattle.plan.proofs.SizeLaws.{written_length, stores_fit}
+use Rattle.std.specs.Prelude.{Result, Ok, Err}
+use Rattle.format.specs.Verdicts.{Verdict, pass}
+use Rattle.format.specs.declared.verdict.Refusal.{Refusal}
 
-plan_fits : (v : Verdict) (s : Sizes) {sizes : Sizes} → plan_as v s ≡ plan.Fits sizes → (v ≡ Pass) × (s ≡ sizes)
-plan_fits Pass s h = (refl, cc)
-plan_fits (Fail number place) s h = let z : ◌≡◌ {A = ℕ} 0 1 = cc in absurd (omega arith)
+plan_fits : (v : Verdict) (s : Sizes) {sizes : Sizes} → plan_as v s ≡ Ok sizes → (v ≡ pass) × (s ≡ sizes)
+plan_fits (Ok _) s h = (refl, cc)
+plan_fits (Err e) s h = let z : ◌≡◌ {A = ℕ} 0 1 = cc in absurd (omega arith)
 
-plan_refused : (v : Verdict) (s : Sizes) {number place : ℕ} → plan_as v s ≡ plan.Refused number place → v ≡ Fail number place
-plan_refused Pass s h = let z : ◌≡◌ {A = ℕ} 0 1 = cc in absurd (omega arith)
-plan_refused (Fail number place) s h = cc
+plan_refused : (v : Verdict) (s : Sizes) {e : Refusal} → plan_as v s ≡ Err e → v ≡ Err e
+plan_refused (Ok _) s h = let z : ◌≡◌ {A = ℕ} 0 1 = cc in absurd (omega arith)
+plan_refused (Err e) s h = cc
 
 -- what 32 leaves of the lists
 record Lent (sig sigs head heads : List ℕ) : Type 0 where
@@ -36,7 +35,7 @@ record Lent (sig sigs head heads : List ℕ) : Type 0 where
   few_headed : length head / 16 ≤ 512
 
 module _ (name sig sigs head heads : List ℕ) where
-  lent : reasons name sig sigs head heads ≡ Pass → Lent sig sigs head heads
+  lent : reasons name sig sigs head heads ≡ pass → Lent sig sigs head heads
   unfolding reasons
   lent h =
       let a = both_inverted _ _ h in
@@ -55,32 +54,26 @@ module _ (name sig sigs head heads : List ℕ) where
       }
 
   module _ {v : Verdict} (p : v ≡ reasons name sig sigs head heads) where
-    pub room_ready : v ≡ Pass
+    pub room_ready : v ≡ pass
         → (length sig / 16 ≤ 512) × (length head / 16 ≤ 512) × (sizes_from sig (length sig / 16) 0 ≡ length sigs)
         × (sizes_from head (length head / 16) 0 ≡ length heads)
     room_ready h = let l = lent (sym p ∙ h) in (l.few_signed, l.few_headed, l.signed, l.headed)
 
     module _ (room : ℕ) where
-      pub reasons_refuse : {number place : ℕ} → v ≡ Fail number place
-          → plan.Refused number place ≡ decided name sig sigs head heads room
-      unfolding decided write_check
-      reasons_refuse h = rw (both_fail (room_check (length (written_of name sig sigs head heads)) room) (sym p ∙ h))
-
-      pub room_decides : {r : Plan} → v ≡ Pass → r ≡ planned sig sigs head heads room
+      pub room_decides : {r : Result Sizes Refusal} → v ≡ pass → r ≡ planned sig sigs head heads room
           → r ≡ decided name sig sigs head heads room
       unfolding decided planned write_check
       room_decides h q =
           q ∙ sym (rw (both_pass (sym p ∙ h)) (rw (written_length sig sigs head heads name)))
 
   -- for callers
-  module _ (room : ℕ) {r : Plan} (q : r ≡ decided name sig sigs head heads room) where
-    pub refused : {number place : ℕ} → r ≡ plan.Refused number place
-        → write_check name sig sigs head heads room ≡ Fail number place
+  module _ (room : ℕ) {r : Result Sizes Refusal} (q : r ≡ decided name sig sigs head heads room) where
+    pub refused : {e : Refusal} → r ≡ Err e → write_check name sig sigs head heads room ≡ Err e
     unfolding decided
     refused h = plan_refused _ _ (sym q ∙ h)
 
-    module _ {sizes : Sizes} (h : r ≡ plan.Fits sizes) where
-      pub fitting : (write_check name sig sigs head heads room ≡ Pass) × (sizes_of sig sigs head heads ≡ sizes)
+    module _ {sizes : Sizes} (h : r ≡ Ok sizes) where
+      pub fitting : (write_check name sig sigs head heads room ≡ pass) × (sizes_of sig sigs head heads ≡ sizes)
       unfolding decided
       fitting = plan_fits (write_check name sig sigs head heads room) (sizes_of sig sigs head heads) (sym q ∙ h)
 
@@ -94,7 +87,7 @@ module _ (name sig sigs head heads : List ℕ) where
           let b = inverted _ _ _ _ a.1 in
           (leb-true _ _ a.0, leb-true _ _ b.0)
 
-      found : reasons name sig sigs head heads ≡ Pass
+      found : reasons name sig sigs head heads ≡ pass
       unfolding write_check
       found = (both_inverted _ _ fitting.0).0
 

@@ -6,7 +6,7 @@ use mathlib.Core.List.{List, ◌++◌}
 use lib.ListN.{length, drop, length-append, length-replicate, length-take, length-drop}
 use native.Mathlib.Omega.{arith}
 use borrow.Author.Tests.{le-leb, lt-leb}
-use Rattle.format.specs.Verdicts.{check}
+use Rattle.format.specs.Verdicts.{check, refusal}
 use Rattle.message_digest.specs.Md5.{digest}
 use Rattle.message_digest.proofs.DigestLaws.{digest_length}
 use Rattle.put.specs.Puts.{zeros}
@@ -17,9 +17,9 @@ use Rattle.layout.specs.Layout.{data_start, data_stop, store_from, structure_byt
 use Rattle.layout.proofs.LeadLaws.{lead_length}
 use Rattle.layout.proofs.StructureLaws.{structure_length, signature_length}
 use Rattle.plan.specs.declared.Sizes.{Sizes}
-use Rattle.plan.specs.declared.Plan.TheVariants as plan
 use Rattle.plan.specs.Refusals.{room_check, written_of}
 use Rattle.plan.specs.Sizes.{signature_store, header_store, sizes_with, sizes_of, planned}
+use Rattle.std.specs.Prelude.{Ok, Err}
 
 -- data of the sizes that a list says takes at least its own length in a store
 sizes_fill : (list row : List ℕ) (n i at filled : ℕ) → at + sizes_from list n i ≡ length row
@@ -74,16 +74,16 @@ module _ (sig sigs head heads : List ℕ) where
 
   -- 33 and 34
   module _ (room : ℕ) where
-    over : 65536 < (sizes_of sig sigs head heads).length → plan.Refused 33 0 ≡ planned sig sigs head heads room
+    over : 65536 < (sizes_of sig sigs head heads).length → Err (refusal 33 0) ≡ planned sig sigs head heads room
     unfolding planned room_check check
     over l = rw (lt-leb (sizes_of sig sigs head heads).length 65536 l)
 
     pub over_first : sizes_from sig (length sig / 16) 0 ≡ length sigs → 65536 < length sigs
-        → plan.Refused 33 0 ≡ planned sig sigs head heads room
+        → Err (refusal 33 0) ≡ planned sig sigs head heads room
     over_first h l = let k = sizes_fill sig sigs (length sig / 16) 0 0 20 (omega arith) in over (omega arith)
 
     pub over_second : sizes_from head (length head / 16) 0 ≡ length heads → 65536 < length heads
-        → plan.Refused 33 0 ≡ planned sig sigs head heads room
+        → Err (refusal 33 0) ≡ planned sig sigs head heads room
     over_second h l = let k = sizes_fill head heads (length head / 16) 0 0 0 (omega arith) in over (omega arith)
 
     module _ {first second : ℕ} {sizes : Sizes} (f : first ≡ 20 + length (store_from 20 (entries_of sig sigs)))
@@ -91,11 +91,11 @@ module _ (sig sigs head heads : List ℕ) where
       meets : sizes ≡ sizes_of sig sigs head heads
       meets = let k : second ≡ header_store head heads = omega arith in z ∙ rw (f, k)
 
-      pub over_whole : 65536 < sizes.length → plan.Refused 33 0 ≡ planned sig sigs head heads room
+      pub over_whole : 65536 < sizes.length → Err (refusal 33 0) ≡ planned sig sigs head heads room
       over_whole l = over (rw meets at l)
 
       pub short : sizes.length ≤ 65536 → room < sizes.length
-          → plan.Refused 34 sizes.length ≡ planned sig sigs head heads room
+          → Err (refusal 34 sizes.length) ≡ planned sig sigs head heads room
       unfolding planned room_check check
       short l k =
           rw (
@@ -104,7 +104,7 @@ module _ (sig sigs head heads : List ℕ) where
             lt-leb (sizes_of sig sigs head heads).length room (rw meets at k),
           )
 
-      pub fits : sizes.length ≤ 65536 → sizes.length ≤ room → plan.Fits sizes ≡ planned sig sigs head heads room
+      pub fits : sizes.length ≤ 65536 → sizes.length ≤ room → Ok sizes ≡ planned sig sigs head heads room
       unfolding planned room_check check
       fits l k =
           rw (

@@ -1,9 +1,7 @@
 -- Request 1: the refusals of a writing, in order: 32, 33, 34.
 use Rattle.std.specs.Prelude.{ℕ, List, length, leb}
 use Rattle.format.specs.Sizes.{package_limit}
-use Rattle.format.specs.declared.verdict.Verdict.{Verdict}
-use Rattle.format.specs.declared.verdict.Verdict.TheVariants.{Pass}
-use Rattle.format.specs.Verdicts.{check, both}
+use Rattle.format.specs.Verdicts.{check, both, Verdict, pass}
 use Rattle.lists.specs.Lists.{entries_of}
 use Rattle.reasons.specs.Reasons.{reasons}
 use Rattle.layout.specs.Layout.{written}
@@ -14,7 +12,7 @@ unfoldable pub room_check : ℕ → ℕ → Verdict
 room_check needed room =
     check (leb needed package_limit) 33 0
     (check (leb needed room) 34 needed
-    Pass)
+    pass)
 
 -- the package of a name and two lists as they are lent
 abbrev pub written_of : List ℕ → List ℕ → List ℕ → List ℕ → List ℕ → List ℕ

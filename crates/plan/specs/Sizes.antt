@@ -1,16 +1,13 @@
 -- The sizes of a package that is to be written, and the plan of a writing: these sizes, or the refusal.
-use Rattle.std.specs.Prelude.{ℕ, ◌+◌, ◌*◌, ◌/◌, ◌≤◌, ◌≡◌, List, length}
+use Rattle.std.specs.Prelude.{ℕ, ◌+◌, ◌*◌, ◌/◌, ◌≤◌, ◌≡◌, List, length, Result, Ok, Err}
 use Rattle.format.specs.Sizes.{package_limit, nindex_limit, lead_size, header_record_size, index_record_size}
 use Rattle.format.specs.Places.{align_up}
-use Rattle.format.specs.declared.verdict.Verdict.{Verdict}
-use Rattle.format.specs.declared.verdict.Verdict.TheVariants.{Pass, Fail}
 use Rattle.lists.specs.Lists.{entries_of, sizes_from}
 use Rattle.layout.specs.Layout.{store_from}
 use Rattle.plan.specs.declared.Sizes.{Sizes}
-use Rattle.plan.specs.declared.Plan.{Plan}
-use Rattle.plan.specs.declared.Plan.TheVariants.{Fits}
-use Rattle.plan.specs.declared.Plan.TheVariants as plan
 use Rattle.plan.specs.Refusals.{room_check, write_check}
+use Rattle.format.specs.Verdicts.{Verdict}
+use Rattle.format.specs.declared.verdict.Refusal.{Refusal}
 
 -- what 32 and the limit leave of a list as it is lent
 abbrev pub Listed : List ℕ → List ℕ → Type 0
@@ -47,16 +44,16 @@ sizes_of signature signatureRow header headerRow =
     sizes_with signature header (signature_store signature signatureRow) (header_store header headerRow)
 
 -- the sizes, where 33 and 34 pass
-abbrev pub plan_as : Verdict → Sizes → Plan
-plan_as Pass sizes = Fits sizes
-plan_as (Fail number place) sizes = plan.Refused number place
+abbrev pub plan_as : Verdict → Sizes → Result Sizes Refusal
+plan_as (Ok _) sizes = Ok sizes
+plan_as (Err e) sizes = Err e
 
-unfoldable pub planned : List ℕ → List ℕ → List ℕ → List ℕ → ℕ → Plan
+unfoldable pub planned : List ℕ → List ℕ → List ℕ → List ℕ → ℕ → Result Sizes Refusal
 planned signature signatureRow header headerRow room =
     plan_as (room_check (sizes_of signature signatureRow header headerRow).length room)
     (sizes_of signature signatureRow header headerRow)
 
 -- the sizes, where 32 to 34 pass
-unfoldable pub decided : List ℕ → List ℕ → List ℕ → List ℕ → List ℕ → ℕ → Plan
+unfoldable pub decided : List ℕ → List ℕ → List ℕ → List ℕ → List ℕ → ℕ → Result Sizes Refusal
 decided name signature signatureRow header headerRow room =
     plan_as (write_check name signature signatureRow header headerRow room) (sizes_of signature signatureRow header headerRow)

@@ -1,14 +1,14 @@
 // Decides a writing: refusals 32 to 34, and the sizes of the package.
 #![tactic(auto)]
 
-ghost use Rattle.std.specs.Prelude.{◌≡◌, ◌+◌, ◌*◌, ◌/◌, ◌≤◌, ◌<◌, length};
+ghost use Rattle.std.specs.Prelude.{◌≡◌, ◌+◌, ◌*◌, ◌/◌, ◌≤◌, length};
 ghost use Rattle.format.specs.Sizes.{package_limit};
 ghost use Rattle.lists.specs.Lists.{entries_of, sizes_from};
 ghost use Rattle.layout.specs.Layout.{store_from};
 ghost use Rattle.plan.specs.Sizes.{Listed, sizes_with, planned, decided};
 
-use format::{HeaderRecord, IndexRecord, Lead, Verdict};
-use lists::ListRecord;
+use format::{HeaderRecord, IndexRecord, Lead, Refusal};
+use lists::Lent;
 use places::FileOffset;
 use reasons::Own;
 
@@ -21,43 +21,37 @@ pub struct Sizes {
     pub length: u32,
 }
 
-// The sizes of a package that fits, or the refusal.
-#[derive(Clone, Copy)]
-pub enum Plan {
-    Fits(Sizes),
-    Refused(u32, u32),
-}
+const TOO_LONG: Refusal = Refusal {
+    number: 33,
+    place: 0,
+};
 
 // Up to where the store of a list is filled, from a place on.
-fn store_end(list: &[u8], row: &[u8], start: usize) -> usize
-    requires { Listed list.now row.now × (start ≤ 20) }
-    ensures { (result ≡ start + length (store_from start (entries_of list.now row.now)))
+fn store_end(lent: &Lent, start: usize) -> usize
+    requires { Listed lent.now.list.now lent.now.row.now × (start ≤ 20) }
+    ensures { (result ≡ start + length (store_from start (entries_of lent.now.list.now lent.now.row.now)))
         × (result ≤ 2 * package_limit) }
 {
-    let n = (list.len() / ListRecord::SIZE) as u32;
-    let mut at = 0;
+    let n = lent.count() as u32;
     let mut filled = start;
-    let mut i = 0;
-    while i < n {
-        let e = lists::entry(list, i);
+    for i in 0..n {
+        let e = lent.entry(i);
         let offset = layout::offset_for(e.ty, filled as u32);
         filled = offset + e.size as usize;
-        at += e.size as usize;
-        i += 1;
     }
     filled
 }
 
 // The sizes of a package with stores of the given sizes.
-fn sizes_with(signature: &[u8], header: &[u8], first: usize, second: usize) -> Sizes
-    requires { (length signature.now / 16 ≤ 512) × (length header.now / 16 ≤ 512)
+fn sizes_with(signature: &Lent, header: &Lent, first: usize, second: usize) -> Sizes
+    requires { (length signature.now.list.now / 16 ≤ 512) × (length header.now.list.now / 16 ≤ 512)
         × (first ≤ 2 * package_limit) × (second ≤ 2 * package_limit) }
-    ensures { result ≡ sizes_with signature.now header.now first second }
+    ensures { result ≡ sizes_with signature.now.list.now header.now.list.now first second }
 {
-    let n = signature.len() / ListRecord::SIZE + Own::ENTRIES;
+    let n = signature.count() + Own::ENTRIES;
     let end = Lead::SIZE + (HeaderRecord::SIZE + IndexRecord::SIZE * n + first);
-    let start = (end + 7) / 8 * 8;
-    let m = header.len() / ListRecord::SIZE;
+    let start = end.next_multiple_of(8);
+    let m = header.count();
     let length = start + (HeaderRecord::SIZE + IndexRecord::SIZE * m + second);
     Sizes {
         signature: first as u32,
@@ -68,52 +62,41 @@ fn sizes_with(signature: &[u8], header: &[u8], first: usize, second: usize) -> S
 }
 
 // Refusals 33 and 34, for lists that passed 32. Data longer than a package is over the limit at once.
-fn room_check(
-    signature: &[u8],
-    signature_data: &[u8],
-    header: &[u8],
-    header_data: &[u8],
-    room: usize,
-) -> Plan
-    requires { (length signature.now / 16 ≤ 512) × (length header.now / 16 ≤ 512)
-        × (sizes_from signature.now (length signature.now / 16) 0 ≡ length signature_data.now)
-        × (sizes_from header.now (length header.now / 16) 0 ≡ length header_data.now) }
-    ensures { result ≡ planned signature.now signature_data.now header.now
-        header_data.now room }
+#[tactic(auto, using(crate::proofs::SizeLaws::over_first, crate::proofs::SizeLaws::over_second, crate::proofs::SizeLaws::over_whole, crate::proofs::SizeLaws::short, crate::proofs::SizeLaws::fits))]
+fn room_check(signature: &Lent, header: &Lent, room: usize) -> Result<Sizes, Refusal>
+    requires { (length signature.now.list.now / 16 ≤ 512) × (length header.now.list.now / 16 ≤ 512)
+        × (sizes_from signature.now.list.now (length signature.now.list.now / 16) 0 ≡ length signature.now.row.now)
+        × (sizes_from header.now.list.now (length header.now.list.now / 16) 0 ≡ length header.now.row.now) }
+    ensures { result ≡ planned signature.now.list.now signature.now.row.now
+        header.now.list.now header.now.row.now room }
 {
-    if FileOffset::LIMIT < signature_data.len() {
-        return Plan::Refused(33, 0);
+    if FileOffset::LIMIT < signature.row.len() {
+        return Err(TOO_LONG);
     }
-    if FileOffset::LIMIT < header_data.len() {
-        return Plan::Refused(33, 0);
+    if FileOffset::LIMIT < header.row.len() {
+        return Err(TOO_LONG);
     }
-    let first = store_end(signature, signature_data, Own::STORE);
-    let second = store_end(header, header_data, 0);
+    let first = store_end(signature, Own::STORE);
+    let second = store_end(header, 0);
     let sizes = sizes_with(signature, header, first, second);
     if FileOffset::LIMIT < sizes.length as usize {
-        return Plan::Refused(33, 0);
+        return Err(TOO_LONG);
     }
     if room < sizes.length as usize {
-        return Plan::Refused(34, sizes.length);
+        return Err(Refusal {
+            number: 34,
+            place: sizes.length,
+        });
     }
-    Plan::Fits(sizes)
+    Ok(sizes)
 }
 
 // Refusals 32 to 34: everything is decided here, and nothing is written.
-pub fn decide(
-    name: &[u8],
-    signature: &[u8],
-    signature_data: &[u8],
-    header: &[u8],
-    header_data: &[u8],
-    room: usize,
-) -> Plan
-    ensures { result ≡ decided name.now signature.now signature_data.now
-        header.now header_data.now room }
+#[tactic(auto, using(crate::proofs::PlanLaws::room_ready, crate::proofs::PlanLaws::room_decides), unfolding(format::specs::Verdicts::both, crate::specs::Sizes::decided, crate::specs::Refusals::write_check))]
+pub fn decide(name: &[u8], signature: &Lent, header: &Lent, room: usize) -> Result<Sizes, Refusal>
+    ensures { result ≡ decided name.now signature.now.list.now signature.now.row.now
+        header.now.list.now header.now.row.now room }
 {
-    let v = reasons::check(name, signature, signature_data, header, header_data);
-    if let Verdict::Fail(number, place) = v {
-        return Plan::Refused(number, place);
-    }
-    room_check(signature, signature_data, header, header_data, room)
+    reasons::check(name, signature, header)?;
+    room_check(signature, header, room)
 }

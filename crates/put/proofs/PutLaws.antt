@@ -1,14 +1,18 @@
--- Stores in a buffer (out_of_room, sets_append, sets_past, behind, before, put_there, at_front); four of them (four_stores,
--- three_stores), and what there is no room for (cut_none, cut_one, cut_two, last_cut, cut_behind); a copy and a fill, turn by
--- turn (copy_turn, copied, fill_turn, filled); numbers in a row (one_number to four_numbers), bytes and zero bytes (run_put,
--- run_past, run_cut); the length of what is put (length_bytes_lem, length_four).
+-- Stores in a buffer (out_of_room, sets_append, sets_past, behind, before, put_there, at_front); bytes and zero bytes put into
+-- the part of it that there is room for (all_put, room_put, zeros_put), one behind the other (run_put); the length of what is
+-- put (length_bytes_lem, length_four).
 use Prim.Native.Nat.{ℕ, suc, ◌+◌, ◌-◌, ◌≤◌, ◌<◌}
 use mathlib.Core.Path.{◌≡◌, refl, sym, ap, ◌∙◌}
 use mathlib.Core.List.{List, [], ◌∷◌, ◌++◌, append_assoc}
-use lib.ListN.{length, get_or, set, take, drop, length-set, length-drop, length-replicate}
-use lib.Seq.{sets, sets-eq, set_out, set_comm, take_at, drop_at, drop-cons, length-sets, length-take-le}
+use lib.ListN.{length, set, take, drop, length-take, length-drop, length-replicate, replicate}
+use lib.Seq.{sets, sets-eq, set_out, set_comm, take_at, drop_at, drop-drop, length-sets, length-take-le}
+use borrow.Rule.Slice.PartMut.{put_mid}
+use mathlib.Core.Bool.{Bool, true, false}
+use lib.Dec.{leb}
+use borrow.Author.Tests.{leb-true, leb-false}
+use Rattle.std.specs.Prelude.{min}
+use Rattle.std.proofs.lemmas.List.{take-append-drop, take-replicate}
 use native.Mathlib.Nat.{add-zero}
-use native.Mathlib.Numerals.{add-one}
 use native.Mathlib.Omega.{arith}
 use Rattle.put.specs.Puts.{bytes_of, four_bytes, zeros}
 
@@ -61,118 +65,76 @@ put_there out vs at h =
 pub at_front : (out vs : List ℕ) → length vs ≤ length out → sets out 0 vs ≡ vs ++ drop (length vs) out
 at_front out vs h = let e : 0 + length vs ≡ length vs = omega arith in sets-eq vs out 0 (omega arith) ∙ rw e
 
--- four bytes
-pub four_stores : (out : List ℕ) (at a b c d : ℕ) {o₁ o₂ o₃ o₄ : List ℕ} → o₁ ≡ set out at a → o₂ ≡ set o₁ (at + 1) b
-    → o₃ ≡ set o₂ (at + 2) c → o₄ ≡ set o₃ (at + 3) d → o₄ ≡ sets out at (a ∷ b ∷ c ∷ d ∷ [])
-four_stores out at a b c d p q r s =
-    let f : at + 2 ≡ suc (suc at) = omega arith in
-    let g : at + 3 ≡ suc (suc (suc at)) = omega arith in
-    s ∙ rw (r, q, p, g, f, add-one)
+-- a place behind the end is as good as any other there
+clamped : (out : List ℕ) (at p cap : ℕ) (vs : List ℕ) → p ≡ min at cap → length out ≤ cap → sets out p vs ≡ sets out at vs
+clamped out at p cap vs h m = go (leb at cap) refl
+  where
+    go : (b : Bool) → leb at cap ≡ b → sets out p vs ≡ sets out at vs
+    go true t = let l = leb-true at cap t in let e : p ≡ at = omega arith in rw e
+    go false t =
+        let l = leb-false at cap t in
+        sets_past out p vs (omega arith) ∙ sym (sets_past out at vs (omega arith))
 
-pub three_stores : (out : List ℕ) (at a b c : ℕ) {o₁ o₂ o₃ : List ℕ} → o₁ ≡ set out at a → o₂ ≡ set o₁ (at + 1) b
-    → o₃ ≡ set o₂ (at + 2) c → o₃ ≡ sets out at (a ∷ b ∷ c ∷ [])
-three_stores out at a b c p q r = let f : at + 2 ≡ suc (suc at) = omega arith in r ∙ rw (q, p, f, add-one)
+-- only what there is room for is put
+room_only : (out : List ℕ) (at room : ℕ) (vs : List ℕ) → length out ≤ at + room → room ≤ length vs
+    → sets out at (take room vs) ≡ sets out at vs
+room_only out at room vs l m =
+    let long = length-take-le room vs m in
+    let e : at + room ≡ at + length (take room vs) = omega arith in
+    sym
+    (ap (sets out at) (sym (take-append-drop room vs)) ∙ sets_append out at (take room vs) (drop room vs)
+    ∙ sets_past (sets out at (take room vs)) (at + length (take room vs)) (drop room vs)
+    (let k = length-sets out at (take room vs) in omega arith))
 
--- what the buffer has no room for
-pub cut_none : (out : List ℕ) (at : ℕ) (xs : List ℕ) → length out ≤ at → out ≡ sets out at xs
-cut_none out at xs h = sym (sets_past out at xs h)
+-- a part of the buffer, and the buffer with other bytes there
+length_part : (out : List ℕ) (p k : ℕ) → p + k ≤ length out → length (take k (drop p out)) ≡ k
+length_part out p k h = simp (length-take, length-drop) (omega arith)
 
-pub cut_one : (out : List ℕ) (at a : ℕ) (xs : List ℕ) {o : List ℕ} → o ≡ set out at a → length out - at < 2
-    → o ≡ sets out at (a ∷ xs)
-cut_one out at a xs p h =
-    let k = length-set out at a in
-    p ∙ sym (sets_past (set out at a) (suc at) xs (omega arith))
+part_put : (out : List ℕ) (p k : ℕ) (vs : List ℕ) → p + length vs ≤ length out → k ≡ length vs → put_mid p k out vs ≡ sets out p vs
+part_put out p k vs l e =
+    rw (e, drop-drop (length vs) p out) (sym (sets-eq vs out p l ∙ append_assoc (take p out) vs (drop (p + length vs) out)))
 
-pub cut_two : (out : List ℕ) (at a b : ℕ) (xs : List ℕ) {o₁ o₂ : List ℕ} → o₁ ≡ set out at a → o₂ ≡ set o₁ (at + 1) b
-    → length out - at < 3 → o₂ ≡ sets out at (a ∷ b ∷ xs)
-cut_two out at a b xs p q h =
-    let k = length-set out at a in
-    let l = length-set (set out at a) (suc at) b in
-    q ∙ rw (p, add-one) (sym (sets_past (set (set out at a) (suc at) b) (suc (suc at)) xs (omega arith)))
+module _ (out : List ℕ) (at p k : ℕ) {o : List ℕ} (e : p ≡ min at (length out)) where
+  pub all_put : (vs : List ℕ) → o ≡ vs → length vs ≤ length out - p → k ≡ p + length vs - p → put_mid p k out o ≡ sets out at vs
+  all_put vs f l g = rw f (part_put out p k vs (omega arith) (omega arith) ∙ clamped out at p (length out) vs e (omega arith))
 
-pub last_cut : (out : List ℕ) (at a b c d : ℕ) {o : List ℕ} → o ≡ sets out at (a ∷ b ∷ c ∷ []) → length out < at + 4
-    → o ≡ sets out at (a ∷ b ∷ c ∷ d ∷ [])
-last_cut out at a b c d p h =
-    let j = length-set out at a in
-    let k = length-set (set out at a) (suc at) b in
-    let l = length-set (set (set out at a) (suc at) b) (suc (suc at)) c in
-    p ∙ out_of_room (set (set (set out at a) (suc at) b) (suc (suc at)) c) (suc (suc (suc at))) d (omega arith)
+  pub room_put : (vs : List ℕ) → o ≡ take (length out - p) vs → length out - p < length vs → k ≡ length out - p
+      → put_mid p k out o ≡ sets out at vs
+  room_put vs f l g =
+      let long = length-take-le (length out - p) vs (omega arith) in
+      rw f
+      (part_put out p k (take (length out - p) vs) (omega arith) (omega arith)
+      ∙ room_only out p (length out - p) vs (omega arith) (omega arith) ∙ clamped out at p (length out) vs e (omega arith))
 
-no_more : (out : List ℕ) (at : ℕ) (xs : List ℕ) → (1 ≤ length xs → length out ≤ at) → sets out at xs ≡ out
-no_more out at [] h = refl
-no_more out at (x ∷ xs) h = sets_past out at (x ∷ xs) (h (omega arith))
+  pub zeros_put : (n m : ℕ) → o ≡ replicate (length (take k (drop p out))) 0 → m ≡ min n (length out - p) → k ≡ p + m - p
+      → put_mid p k out o ≡ sets out at (zeros n)
+  zeros_put n m f g h = go (leb n (length out - p)) refl
+    where
+      long : length (zeros n) ≡ n
+      long = length-replicate {A = ℕ} n 0
 
--- a copy of the n bytes that there is room for: v is what the buffer is to be, and that is what it is now, with the bytes
--- that are left from at + i on
-module _ (out bytes : List ℕ) (at n i : ℕ) {v : List ℕ} (inv : v ≡ sets out (at + i) (drop i bytes)) where
-  pub copy_turn : {len : ℕ} → n ≡ length bytes - (length bytes - (len - at)) → length out ≡ len → i < n
-      → v ≡ sets (set out (at + i) (get_or bytes i 0)) (at + (i + 1)) (drop (i + 1) bytes)
-  copy_turn r f l =
-      let e : at + (i + 1) ≡ suc (at + i) = omega arith in
-      inv ∙ rw (e, add-one i, drop-cons bytes i 0 (omega arith))
+      fits : length (take k (drop p out)) ≡ k
+      fits = length_part out p k (omega arith)
 
-  pub copied : {len : ℕ} → n ≡ length bytes - (length bytes - (len - at)) → length out ≡ len → n ≤ i → out ≡ v
-  copied e f l =
-      sym (inv ∙ no_more out (at + i) (drop i bytes) (λ h. let k = length-drop i bytes in omega arith))
+      go : (b : Bool) → leb n (length out - p) ≡ b → put_mid p k out o ≡ sets out at (zeros n)
+      go true t =
+          let l = leb-true n (length out - p) t in
+          let w = long in
+          let q : k ≡ n = omega arith in
+          all_put (zeros n) (f ∙ rw (fits, q)) (omega arith) (omega arith)
+      go false t =
+          let l = leb-false n (length out - p) t in
+          let w = long in
+          let q : k ≡ length out - p = omega arith in
+          room_put (zeros n) (f ∙ rw (fits, q) (sym (take-replicate (length out - p) n 0 (omega arith)))) (omega arith) q
 
--- a fill with as many of `all` zero bytes as there is room for
-module _ (out : List ℕ) (at all n i : ℕ) {v : List ℕ} (inv : v ≡ sets out (at + i) (zeros (all - i))) where
-  pub fill_turn : {len : ℕ} → n ≡ all - (all - (len - at)) → length out ≡ len → i < n
-      → v ≡ sets (set out (at + i) 0) (at + (i + 1)) (zeros (all - (i + 1)))
-  fill_turn e g l =
-      let f : at + (i + 1) ≡ suc (at + i) = omega arith in
-      let k : all - i ≡ suc (all - (i + 1)) = omega arith in
-      inv ∙ rw (f, k)
-
-  pub filled : {len : ℕ} → n ≡ all - (all - (len - at)) → length out ≡ len → n ≤ i → out ≡ v
-  filled e f l =
-      sym (inv ∙ no_more out (at + i) (zeros (all - i)) (λ h. let k = length-replicate {A = ℕ} (all - i) 0 in omega arith))
-
--- what the buffer has no room for behind what was put
-pub cut_behind : (out : List ℕ) (at : ℕ) (xs ys : List ℕ) {o : List ℕ} → o ≡ sets out at xs → length out ≤ at + length xs
-    → o ≡ sets out at (xs ++ ys)
-cut_behind out at xs ys p h =
-    let k = length-sets out at xs in
-    p ∙ sym (sets_append out at xs ys ∙ sets_past (sets out at xs) (at + length xs) ys (omega arith))
-
--- four numbers, as far as there is room
-module _ (out : List ℕ) (at a b c d : ℕ) {o₁ : List ℕ} (p : o₁ ≡ sets out at (bytes_of a)) where
-  pub one_number : length out - at ≤ 4 → o₁ ≡ sets out at (four_bytes a b c d)
-  unfolding four_bytes bytes_of
-  one_number h = cut_behind out at (bytes_of a) (bytes_of b ++ (bytes_of c ++ bytes_of d)) p (omega arith)
-
-  module _ {o₂ : List ℕ} (q : o₂ ≡ sets o₁ (at + 4) (bytes_of b)) where
-    pub two_numbers : length out - at ≤ 8 → o₂ ≡ sets out at (four_bytes a b c d)
-    unfolding four_bytes bytes_of
-    two_numbers h =
-        cut_behind out at (bytes_of a ++ bytes_of b) (bytes_of c ++ bytes_of d) (behind out at (bytes_of a) (bytes_of b) p q refl)
-        (omega arith)
-
-    module _ {o₃ : List ℕ} (r : o₃ ≡ sets o₂ (at + 8) (bytes_of c)) where
-      three : o₃ ≡ sets out at (bytes_of a ++ bytes_of b ++ bytes_of c)
-      unfolding bytes_of
-      three = behind out at (bytes_of a ++ bytes_of b) (bytes_of c) (behind out at (bytes_of a) (bytes_of b) p q refl) r refl
-
-      pub three_numbers : length out - at ≤ 12 → o₃ ≡ sets out at (four_bytes a b c d)
-      unfolding four_bytes bytes_of
-      three_numbers h = cut_behind out at (bytes_of a ++ bytes_of b ++ bytes_of c) (bytes_of d) three (omega arith)
-
-      pub four_numbers : {o₄ : List ℕ} → o₄ ≡ sets o₃ (at + 12) (bytes_of d) → o₄ ≡ sets out at (four_bytes a b c d)
-      unfolding four_bytes bytes_of
-      four_numbers s = behind out at (bytes_of a ++ bytes_of b ++ bytes_of c) (bytes_of d) three s refl
-
--- bytes and zero bytes, as far as there is room
-pub run_put : (out : List ℕ) (at n : ℕ) (run : List ℕ) {o₁ o₂ : List ℕ} → o₁ ≡ sets out at run
-    → o₂ ≡ sets o₁ (at + length run) (zeros n) → o₂ ≡ sets out at (run ++ zeros n)
-run_put out at n run p q = behind out at run (zeros n) p q refl
-
-pub run_past : (out : List ℕ) (at n : ℕ) (run : List ℕ) {o : List ℕ} → o ≡ sets out at run → length out ≤ at
-    → o ≡ sets out at (run ++ zeros n)
-run_past out at n run p h = cut_behind out at run (zeros n) p (omega arith)
-
-pub run_cut : (out : List ℕ) (at n : ℕ) (run : List ℕ) {o : List ℕ} → o ≡ sets out at run → length out - at ≤ length run
-    → o ≡ sets out at (run ++ zeros n)
-run_cut out at n run p h = cut_behind out at run (zeros n) p (omega arith)
+-- bytes and zero bytes
+pub run_put : (out : List ℕ) (at n p cap : ℕ) (run : List ℕ) {o r : List ℕ} → length out ≤ cap → o ≡ sets out at run
+    → p ≡ min (at + length run) cap → r ≡ sets o p (zeros n) → r ≡ sets out at (run ++ zeros n)
+run_put out at n p cap run l f g h =
+    let long = length-sets out at run in
+    let k = ap length f in
+    h ∙ clamped _ (at + length run) p cap (zeros n) g (omega arith) ∙ rw f (sym (sets_append out at run (zeros n)))
 
 -- the length of a number, and of four
 pub length_bytes_lem : (n : ℕ) → length (bytes_of n) ≡ 4

@@ -6,69 +6,56 @@ use lib.ListN.{length}
 use native.Mathlib.Omega.{arith}
 use Rattle.format.specs.Sizes.{package_limit}
 use Rattle.format.specs.declared.section.Section.{Section}
-use Rattle.format.specs.declared.verdict.Verdict.{Verdict}
-use Rattle.format.specs.declared.verdict.Verdict.TheVariants.{Pass, Fail}
-use Rattle.format.specs.declared.verdict.Answer.TheVariants as answer
-use Rattle.format.specs.Verdicts.{both}
+use Rattle.format.specs.Verdicts.{both, Verdict, Answer, pass}
 use Rattle.format.proofs.VerdictLaws.{both_pass, both_fail, both_inverted}
 use Rattle.package.specs.declared.Opened.{Opened}
-use Rattle.package.specs.declared.Opened.TheVariants.{Sound, Unsound}
-use Rattle.package.specs.Package.{signature_at, header_at, sound_check, opened_as, opened}
+use Rattle.package.specs.Package.{signature_at, header_at, sound_check, opened_as}
 use Rattle.package.proofs.OpenLaws.{sound_size}
 use Rattle.book.specs.declared.dose.Dose.{Dose}
 use Rattle.book.specs.Doses.{doses}
 use Rattle.buffer.specs.Buffer.{numbers_of}
 use Rattle.octets.specs.Octets.{number_bytes}
-use Rattle.reading.specs.declared.opened.Weighing.{Weighing}
-use Rattle.reading.specs.declared.opened.Weighing.TheVariants.{Doses, Refused}
 use Rattle.reading.specs.Editions.{edition_of}
-use Rattle.reading.specs.Reading.{edition_check, book_of, opened_check, checks_at, reading_check, read_answer}
-use Rattle.reading.specs.Weighings.{opened_at, opened_book, weighing_as, decided}
-use Rattle.reading.specs.Buffers.{after_as, Form, Numbers, Bytes, room_in, put, left_in, ReadInto}
+use Rattle.reading.specs.Reading.{edition_check, book_in, book_of, opened_check, checks_at, reading_check, read_answer}
+use Rattle.reading.specs.Weighings.{opened_at, weighing_as, decided}
+use Rattle.reading.specs.Buffers.{Form, Numbers, Bytes, room_in, put, left_in, ReadInto}
+use Rattle.std.specs.Prelude.{Result, Ok, Err}
+use Rattle.format.specs.declared.verdict.Refusal.{Refusal}
 
 -- what a weighing says of the verdict
-weighed : (v : Verdict) (n : ℕ) {count : ℕ} → weighing_as v n ≡ Doses count → (v ≡ Pass) × (n ≡ count)
-weighed Pass n h = (refl, cc)
-weighed (Fail number place) n h = let z : ◌≡◌ {A = ℕ} 0 1 = cc in absurd (omega arith)
+weighed : (v : Verdict) (n : ℕ) {count : ℕ} → weighing_as v n ≡ Ok count → (v ≡ pass) × (n ≡ count)
+weighed (Ok _) n h = (refl, cc)
+weighed (Err e) n h = let z : ◌≡◌ {A = ℕ} 0 1 = cc in absurd (omega arith)
 
-unweighed : (v : Verdict) (n : ℕ) {number place : ℕ} → weighing_as v n ≡ Refused number place → v ≡ Fail number place
-unweighed Pass n h = let z : ◌≡◌ {A = ℕ} 0 1 = cc in absurd (omega arith)
-unweighed (Fail number place) n h = cc
+unweighed : (v : Verdict) (n : ℕ) {e : Refusal} → weighing_as v n ≡ Err e → v ≡ Err e
+unweighed (Ok _) n h = let z : ◌≡◌ {A = ℕ} 0 1 = cc in absurd (omega arith)
+unweighed (Err e) n h = cc
 
 -- and what an opened package does
-sound_as : (v : Verdict) (a b : Section) {signature header : Section} → opened_as v a b ≡ Sound signature header
-    → (v ≡ Pass) × (a ≡ signature) × (b ≡ header)
-sound_as Pass a b h = (refl, cc, cc)
-sound_as (Fail number place) a b h = let z : ◌≡◌ {A = ℕ} 0 1 = cc in absurd (omega arith)
+sound_as : (v : Verdict) (a b : Section) {both : Opened} → opened_as v a b ≡ Ok both
+    → (v ≡ pass) × (a ≡ both.signature) × (b ≡ both.header)
+sound_as (Ok _) a b {both} h =
+    let q : record { signature = a; header = b } ≡ both = cc in
+    (refl, ap (λ (o : Opened). o.signature) q, ap (λ (o : Opened). o.header) q)
+sound_as (Err e) a b h = let z : ◌≡◌ {A = ℕ} 0 1 = cc in absurd (omega arith)
 
-unsound_as : (v : Verdict) (a b : Section) {number place : ℕ} → opened_as v a b ≡ Unsound number place
-    → v ≡ Fail number place
-unsound_as Pass a b h = let z : ◌≡◌ {A = ℕ} 0 1 = cc in absurd (omega arith)
-unsound_as (Fail number place) a b h = cc
+unsound_as : (v : Verdict) (a b : Section) {e : Refusal} → opened_as v a b ≡ Err e → v ≡ Err e
+unsound_as (Ok _) a b h = let z : ◌≡◌ {A = ℕ} 0 1 = cc in absurd (omega arith)
+unsound_as (Err x) a b h = cc
 
-both_first : (u v w : Verdict) {number place : ℕ} → both u v ≡ Fail number place → both u (both v w) ≡ Fail number place
+both_first : (u v w : Verdict) {e : Refusal} → both u v ≡ Err e → both u (both v w) ≡ Err e
 unfolding both
-both_first Pass v w h = both_fail w h
-both_first (Fail n p) v w h = h
+both_first (Ok _) v w h = both_fail w h
+both_first (Err x) v w h = h
 
--- in the shape of what is known where a package is opened: v is what check 1 found
-module _ (edition : ℕ) (s : List ℕ) {v : Verdict} (p : v ≡ edition_check edition) where
-  pub edition_refused : {number place : ℕ} → v ≡ Fail number place → Unsound number place ≡ opened_at edition s
-  unfolding opened_at
-  edition_refused h = rw (both_fail _ (sym p ∙ h))
-
-  pub edition_known : {r : Opened} → v ≡ Pass → r ≡ opened s → r ≡ opened_at edition s
-  unfolding opened_at opened
-  edition_known h q = q ∙ ap (λ (u : Verdict). opened_as u (signature_at s) (header_at s)) (sym (both_pass (sym p ∙ h)))
-
--- and where the reading is decided: r is the package as it was opened, b its book
-module _ (edition : ℕ) (s : List ℕ) (room : ℕ) {r : Opened} (q : r ≡ opened_at edition s) where
-  pub unsound_refused : {number place : ℕ} → r ≡ Unsound number place → Refused number place ≡ decided edition s room
+-- where the reading is decided: r is the package as it was opened
+module _ (edition : ℕ) (s : List ℕ) (room : ℕ) {r : Result Opened Refusal} (q : r ≡ opened_at edition s) where
+  pub unsound_refused : {e : Refusal} → r ≡ Err e → Err e ≡ decided edition s room
   unfolding decided opened_at reading_check checks_at
   unsound_refused k = rw (both_first _ _ _ (unsound_as _ _ _ (sym q ∙ k)))
 
-  module _ {signature header : Section} (k : r ≡ Sound signature header) where
-    sound : (edition_check edition ≡ Pass) × (sound_check s ≡ Pass) × (signature_at s ≡ signature) × (header_at s ≡ header)
+  module _ {both : Opened} (k : r ≡ Ok both) where
+    sound : (edition_check edition ≡ pass) × (sound_check s ≡ pass) × (signature_at s ≡ both.signature) × (header_at s ≡ both.header)
     unfolding opened_at
     sound =
         let f = sound_as _ _ _ (sym q ∙ k) in
@@ -82,18 +69,21 @@ module _ (edition : ℕ) (s : List ℕ) (room : ℕ) {r : Opened} (q : r ≡ ope
     unfolding reading_check checks_at
     left = both_pass sound.0 ∙ both_pass sound.1
 
-    pub weighing : {b : List ℕ} {w : Weighing} → b ≡ opened_book s r
-        → w ≡ weighing_as (opened_check (edition_of edition) s signature header room b) (length (doses b))
+    -- its book
+    pub book_here : {b : List ℕ} → b ≡ book_in s both.header → b ≡ book_of s
+    book_here e = e ∙ ap (book_in s) (sym sound.3)
+
+    pub weighing : {b : List ℕ} {w : Answer} → b ≡ book_in s both.header
+        → w ≡ weighing_as (opened_check (edition_of edition) s both.signature both.header room b) (length (doses b))
         → w ≡ decided edition s room
     unfolding decided
     weighing {b} e j =
         let f = sound in
         let ed = edition_of edition in
-        let c = e ∙ ap (opened_book s) (k ∙ ap (Sound signature) (sym f.3)) in
         j
-        ∙ ap (λ (x : Section). weighing_as (opened_check ed s x header room b) (length (doses b))) (sym f.2)
+        ∙ ap (λ (x : Section). weighing_as (opened_check ed s x both.header room b) (length (doses b))) (sym f.2)
         ∙ ap (λ (x : Section). weighing_as (opened_check ed s (signature_at s) x room b) (length (doses b))) (sym f.3)
-        ∙ ap (λ (l : List ℕ). weighing_as (opened_check ed s (signature_at s) (header_at s) room l) (length (doses l))) c
+        ∙ ap (λ (l : List ℕ). weighing_as (opened_check ed s (signature_at s) (header_at s) room l) (length (doses l))) (book_here e)
         ∙ ap (λ (v : Verdict). weighing_as v (length (doses (book_of s)))) (sym left)
 
 -- no doses leave a buffer as it was
@@ -107,46 +97,33 @@ put_none Numbers b before h = rw (no_dose (doses b) h)
 put_none Bytes b before h = rw (no_dose (doses b) h)
 
 -- the answer and the buffer: w is what was decided
-module _ (form : Form) (edition : ℕ) (s before : List ℕ) {w : Weighing}
+module _ (form : Form) (edition : ℕ) (s before : List ℕ) {w : Answer}
     (p : w ≡ decided edition s (room_in form before)) where
   abbrev room : ℕ
   room = room_in form before
 
-  pub read_refused : {number place : ℕ} → w ≡ Refused number place
-      → ReadInto form edition s before (answer.Refused number place) before
+  pub read_refused : {e : Refusal} {answer : Answer} → answer ≡ Err e → w ≡ Err e → ReadInto form edition s before answer before
   unfolding decided left_in
-  read_refused h =
+  read_refused a h =
       let k = unweighed (reading_check edition s room) _ (sym p ∙ h) in
-      record { answered = rw k; buffer = rw k }
+      record { answered = rw (a, k); buffer = rw k }
 
-  module _ {count : ℕ} (h : w ≡ Doses count) where
-    passed : (reading_check edition s room ≡ Pass) × (length (doses (book_of s)) ≡ count)
+  module _ {count : ℕ} (h : w ≡ Ok count) where
+    passed : (reading_check edition s room ≡ pass) × (length (doses (book_of s)) ≡ count)
     unfolding decided
     passed = weighed _ _ (sym p ∙ h)
 
-    answered : answer.Done count ≡ read_answer edition s room
-    answered = let k = passed in rw k.0 (ap answer.Done (sym k.1))
+    answered : (Ok count) ≡ read_answer edition s room
+    answered = let k = passed in rw k.0 (ap Ok (sym k.1))
 
     -- without doses nothing is written
-    pub read_none : count ≡ 0 → ReadInto form edition s before (answer.Done count) before
+    pub read_none : count ≡ 0 → ReadInto form edition s before (Ok count) before
     unfolding left_in
     read_none z =
         let k = passed in
         record { answered = answered; buffer = rw k.0 (put_none form (book_of s) before (k.1 ∙ z)) }
 
-    opened_here : opened_at edition s ≡ Sound (signature_at s) (header_at s)
-    unfolding opened_at reading_check checks_at
-    opened_here =
-        let k = both_inverted _ _ passed.0 in
-        let j = both_inverted _ _ k.1 in
-        ap (λ (v : Verdict). opened_as v (signature_at s) (header_at s)) (both_pass k.0 ∙ j.0)
-
-    pub read_accepted : {r : Opened} {b after : List ℕ} → r ≡ opened_at edition s → b ≡ opened_book s r
-        → after ≡ put form b before → ReadInto form edition s before (answer.Done count) after
+    pub read_accepted : {b after : List ℕ} → b ≡ book_of s → after ≡ put form b before → ReadInto form edition s before (Ok count) after
     unfolding left_in
-    read_accepted q e k =
-        let b = e ∙ ap (opened_book s) (q ∙ opened_here) in
-        record {
-          answered = answered;
-          buffer = rw passed.0 (k ∙ ap (λ (x : List ℕ). put form x before) b);
-        }
+    read_accepted e k =
+        record { answered = answered; buffer = rw passed.0 (k ∙ ap (λ (x : List ℕ). put form x before) e) }

@@ -1,19 +1,17 @@
 -- Document 01: what a reading leaves in the dose buffer, as numbers and, for C, as bytes, four to a number.
-use Rattle.std.specs.Prelude.{ℕ, ◌/◌, ◌≡◌, List, length}
+use Rattle.std.specs.Prelude.{ℕ, ◌/◌, ◌≡◌, List, length, Ok, Err}
 use Rattle.std.proofs.lemmas.List.Edits.{sets}
-use Rattle.format.specs.declared.verdict.Verdict.{Verdict}
-use Rattle.format.specs.declared.verdict.Verdict.TheVariants.{Pass, Fail}
-use Rattle.format.specs.declared.verdict.Answer.{Answer}
 use Rattle.book.specs.Doses.{doses_in}
 use Rattle.buffer.specs.Buffer.{numbers_of, with_doses}
 use Rattle.octets.specs.Octets.{number_bytes, with_dose_bytes}
 use Rattle.reading.specs.Editions.{Edition}
 use Rattle.reading.specs.Reading.{book_of, checks_at, reading_check, read_answer}
+use Rattle.format.specs.Verdicts.{Verdict, Answer}
 
 -- a refused reading changes nothing; an accepted one puts its doses at the front
 abbrev pub after_as : Verdict → List ℕ → List ℕ → List ℕ
-after_as Pass before doses = doses
-after_as (Fail number place) before doses = before
+after_as (Ok _) before doses = doses
+after_as (Err e) before doses = before
 
 -- the forms of a dose buffer: numbers, and for C bytes, four to a number, big-endian, a remainder unused
 pub data Form : Type 0 where

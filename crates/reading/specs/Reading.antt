@@ -1,13 +1,9 @@
 -- Document 01, "Numbers the station shows": the reading, checks 1 to 24 in order, with 27 between 18 and 19 (request 3)
 -- and 28 between the two structures (request 5), for any edition (request 7).
-use Rattle.std.specs.Prelude.{ℕ, ◌*◌, List, cond, length, eqb, leb}
+use Rattle.std.specs.Prelude.{ℕ, ◌*◌, List, cond, length, eqb, leb, Ok, Err}
 use Rattle.be.specs.Numbers.{be32_at}
 use Rattle.format.specs.declared.section.Section.{Section}
-use Rattle.format.specs.declared.verdict.Verdict.{Verdict}
-use Rattle.format.specs.declared.verdict.Verdict.TheVariants.{Pass, Fail}
-use Rattle.format.specs.declared.verdict.Answer.{Answer}
-use Rattle.format.specs.declared.verdict.Answer.TheVariants.{Done, Refused}
-use Rattle.format.specs.Verdicts.{check, both}
+use Rattle.format.specs.Verdicts.{check, both, Verdict, Answer, pass}
 use Rattle.package.specs.Package.{sound_check, signature_at, header_at}
 use Rattle.lookups.specs.Within.{bytes_in}
 use Rattle.catalogue.specs.Words.{int32, bin}
@@ -24,7 +20,7 @@ unfoldable pub edition_check : ℕ → Verdict
 edition_check edition =
     check (leb 1 edition) 1 0
     (check (leb edition last_edition) 1 0
-    Pass)
+    pass)
 
 -- the book: what a look-up in the header shows for 20001, bin
 abbrev pub book_in : List ℕ → Section → List ℕ
@@ -40,14 +36,14 @@ weight_in s header = be32_at (bytes_in s header batch_tag int32) 0
 -- 23 | sum isn't 20002's (where that has a line) | 20002
 unfoldable pub sum_check : Edition → List ℕ → Section → ℕ → Verdict
 sum_check edition s header sum =
-    cond (has_batch edition) (check (eqb (weight_in s header) sum) 23 batch_tag Pass) Pass
+    cond (has_batch edition) (check (eqb (weight_in s header) sum) 23 batch_tag pass) pass
 
 -- 24 | dose buffer under 3 numbers per dose | numbers needed
 abbrev pub needed : Kinds → List ℕ → ℕ
 needed kinds book = numbers_per_dose * length (doses_in kinds book)
 
 unfoldable pub room_check : Kinds → ℕ → List ℕ → Verdict
-room_check kinds room book = check (leb (needed kinds book) room) 24 (needed kinds book) Pass
+room_check kinds room book = check (leb (needed kinds book) room) 24 (needed kinds book) pass
 
 -- 19 to 24 for a book
 unfoldable pub book_part : Edition → List ℕ → Section → ℕ → List ℕ → Verdict
@@ -72,8 +68,8 @@ reading_check edition s room = both (edition_check edition) (checks_at (edition_
 
 -- success is 0 with the dose count as its place
 abbrev pub answer_as : Verdict → ℕ → Answer
-answer_as Pass count = Done count
-answer_as (Fail number place) count = Refused number place
+answer_as (Ok _) count = Ok count
+answer_as (Err e) count = Err e
 
 -- the answer at an edition: any, and one by its number
 abbrev pub answer_at : Edition → List ℕ → ℕ → Answer

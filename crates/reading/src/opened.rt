@@ -3,20 +3,13 @@ ghost use Rattle.std.specs.Prelude.{◌≡◌, ℕ, ◌≤◌, length};
 ghost use Rattle.format.specs.Sizes.{package_limit};
 ghost use Rattle.book.specs.Doses.{doses};
 ghost use Rattle.reading.specs.Editions.{edition_of};
-ghost use Rattle.reading.specs.Reading.{weight_in, sum_check, book_part, opened_check};
-ghost use Rattle.reading.specs.Weighings.{opened_book, weighing_as};
+ghost use Rattle.reading.specs.Reading.{book_in, weight_in, sum_check, book_part, opened_check};
+ghost use Rattle.reading.specs.Weighings.{weighing_as};
 
-use book::{Book, Dose, Weighed};
+use book::{Book, Dose};
 use catalogue::Line;
-use format::{Section, Verdict};
+use format::{Answer, Refusal, Section, Verdict};
 use package::Opened;
-
-// The dose count of a package that passed its checks, or the first check that failed and its place.
-#[derive(Clone, Copy)]
-pub enum Weighing {
-    Doses(u32),
-    Refused(u32, u32),
-}
 
 // The batch weight's tag and line.
 #[derive(Drop)]
@@ -38,14 +31,11 @@ impl BookEntry {
     pub const TYPE: u32 = 7;
 }
 
-// The book of a package: what a look-up in its header shows for 20001, bin; none where the package is unsound.
-pub(crate) fn book_part(pkg: &[u8], found: Opened) -> &[u8]
-    ensures { result.now ≡ opened_book pkg.now found }
+// The book of a header: what a look-up in it shows for 20001, bin.
+pub(crate) fn book(pkg: &[u8], header: Section) -> &[u8]
+    ensures { result.now ≡ book_in pkg.now header }
 {
-    match found {
-        Opened::Sound(_, header) => lookups::find_in(pkg, header, Book::TAG, BookEntry::TYPE),
-        Opened::Unsound(_, _) => &pkg[..0],
-    }
+    lookups::find_in(pkg, header, Book::TAG, BookEntry::TYPE)
 }
 
 // The batch weight of a header: the number that a look-up shows for 20002, int32.
@@ -60,56 +50,37 @@ fn sum_check(edition: u32, pkg: &[u8], header: Section, sum: u64) -> Verdict
     ensures { result ≡ sum_check (edition_of edition) pkg.now header sum }
 {
     if !Line::at(Batch::LINE).in_edition(edition) {
-        return Verdict::Pass;
+        return Ok(());
     }
     if weight(pkg, header) as u64 == sum {
-        return Verdict::Pass;
+        return Ok(());
     }
-    Verdict::Fail(23, Batch::TAG)
+    Err(Refusal::new(23, Batch::TAG))
 }
 
 // Checks 19 to 24 for a book.
-fn weigh_book(edition: u32, pkg: &[u8], header: Section, room: usize, bytes: &[u8]) -> Weighing
+fn weigh_book(edition: u32, pkg: &[u8], header: Section, room: usize, bytes: &[u8]) -> Answer
     ensures { result ≡ weighing_as (book_part (edition_of edition) pkg.now header room bytes.now)
         (length (doses bytes.now)) }
 {
-    let w = book::weigh(edition, bytes);
-    match w {
-        Weighed::Unsound(number, place) => Weighing::Refused(number, place),
-        Weighed::Doses(count, sum) => {
-            let v = sum_check(edition, pkg, header, sum);
-            if let Verdict::Fail(number, place) = v {
-                return Weighing::Refused(number, place);
-            }
-            let needed = Dose::NUMBERS * count;
-            if room < needed as usize {
-                return Weighing::Refused(24, needed);
-            }
-            Weighing::Doses(count)
-        }
+    let weighed = book::weigh(edition, bytes)?;
+    sum_check(edition, pkg, header, weighed.sum)?;
+    let needed = Dose::NUMBERS * weighed.count;
+    if room < needed as usize {
+        return Err(Refusal::new(24, needed));
     }
+    Ok(weighed.count)
 }
 
 // Checks 14 to 18, 27 and 19 to 24 for a package's two structures and its book.
-pub(crate) fn weigh(
-    edition: u32,
-    pkg: &[u8],
-    signature: Section,
-    header: Section,
-    room: usize,
-    bytes: &[u8],
-) -> Weighing
+pub(crate) fn weigh(edition: u32, pkg: &[u8], opened: Opened, room: usize, bytes: &[u8]) -> Answer
     requires { length pkg.now ≤ package_limit }
-    ensures { result ≡ weighing_as (opened_check (edition_of edition) pkg.now signature header room bytes.now)
+    ensures { result ≡ weighing_as
+        (opened_check (edition_of edition) pkg.now opened.signature opened.header room bytes.now)
         (length (doses bytes.now)) }
 {
-    let v = rules::check(edition, pkg, pkg.len() as u32, signature, header);
-    if let Verdict::Fail(number, place) = v {
-        return Weighing::Refused(number, place);
-    }
-    let w = verify::check(pkg, signature, header);
-    if let Verdict::Fail(number, place) = w {
-        return Weighing::Refused(number, place);
-    }
+    let Opened { signature, header } = opened;
+    rules::check(edition, pkg, pkg.len() as u32, signature, header)?;
+    verify::check(pkg, signature, header)?;
     weigh_book(edition, pkg, header, room, bytes)
 }

@@ -10,7 +10,6 @@ use borrow.Author.Tests.{eqb-true, eq-eqb, leb-true, le-leb, not-true}
 use Rattle.format.specs.Sizes.{nindex_limit}
 use Rattle.format.specs.declared.section.Structure.{Structure}
 use Rattle.format.specs.declared.section.Structure.TheVariants.{Signature}
-use Rattle.format.specs.declared.verdict.Verdict.TheVariants.{Pass}
 use Rattle.format.proofs.VerdictLaws.{passed, inverted, both_pass, both_inverted}
 use Rattle.entries.specs.Entries.{type_lawful, count_right}
 use Rattle.put.specs.Puts.{zeros}
@@ -18,6 +17,7 @@ use Rattle.lists.specs.Lists.{ListEntry, sizes_from}
 use Rattle.reasons.specs.Reasons.{record_of, data_exact, tag_in, entry_reasons, entries_reasons, list_reasons, with_own}
 use Rattle.reasons.specs.Reasons.{form_reasons}
 use Rattle.reasons.proofs.ReasonLaws.{own_passes}
+use Rattle.format.specs.Verdicts.{pass}
 
 -- an entry of a structure behind others, of which the tags are given
 pub record EntryRight (structure : Structure) (seen : List ℕ) (entry : ListEntry) : Type 0 where
@@ -27,7 +27,7 @@ pub record EntryRight (structure : Structure) (seen : List ℕ) (entry : ListEnt
   pub fresh : tag_in entry.tag seen ≡ false
 
 pub entry_right : (structure : Structure) (seen : List ℕ) (entry : ListEntry)
-    → (entry_reasons structure seen entry ≡ Pass) ↔ EntryRight structure seen entry
+    → (entry_reasons structure seen entry ≡ pass) ↔ EntryRight structure seen entry
 unfolding entry_reasons
 entry_right structure seen entry = (
   λ h.
@@ -41,8 +41,8 @@ entry_right structure seen entry = (
 
 -- some entries: the first, and those behind it
 pub entries_right : (structure : Structure) (seen : List ℕ) (entry : ListEntry) (rest : List ListEntry)
-    → (entries_reasons structure seen (entry ∷ rest) ≡ Pass)
-    ↔ (EntryRight structure seen entry × (entries_reasons structure (entry.tag ∷ seen) rest ≡ Pass))
+    → (entries_reasons structure seen (entry ∷ rest) ≡ pass)
+    ↔ (EntryRight structure seen entry × (entries_reasons structure (entry.tag ∷ seen) rest ≡ pass))
 unfolding entries_reasons
 entries_right structure seen entry rest = (
   λ h. let k = both_inverted _ _ h in ((entry_right structure seen entry).0 k.0, k.1),
@@ -52,10 +52,10 @@ entries_right structure seen entry rest = (
 pub record ListRight (structure : Structure) (entries : List ListEntry) : Type 0 where
   pub some : 1 ≤ length entries
   pub within : length entries ≤ nindex_limit
-  pub each : entries_reasons structure [] entries ≡ Pass
+  pub each : entries_reasons structure [] entries ≡ pass
 
 pub list_right : (structure : Structure) (entries : List ListEntry)
-    → (list_reasons structure entries ≡ Pass) ↔ ListRight structure entries
+    → (list_reasons structure entries ≡ pass) ↔ ListRight structure entries
 unfolding list_reasons
 list_right structure entries = (
   λ h.
@@ -80,7 +80,7 @@ pub record FormRight (list row : List ℕ) : Type 0 where
   pub whole : length list % 16 ≡ 0
   pub meet : sizes_from list (length list / 16) 0 ≡ length row
 
-pub form_right : (list row : List ℕ) → (form_reasons list row ≡ Pass) ↔ FormRight list row
+pub form_right : (list row : List ℕ) → (form_reasons list row ≡ pass) ↔ FormRight list row
 unfolding form_reasons
 form_right list row = (
   λ h.

@@ -1,18 +1,14 @@
 -- Requests 1 and 3: the reasons of refusal 32, which is placed at 0.
-use Rattle.std.specs.Prelude.{ℕ, zero, suc, ◌*◌, List, [], ◌∷◌, Bool, false, not, ◌||◌, length, eqb, leb}
+use Rattle.std.specs.Prelude.{ℕ, zero, suc, ◌*◌, List, [], ◌∷◌, Bool, false, not, ◌||◌, length, eqb, leb, Option, Some, None}
 use Rattle.be.specs.Numbers.{be32_at}
-use Rattle.strings.specs.declared.Ending.{Ending}
-use Rattle.strings.specs.declared.Ending.TheVariants.{Ends, Open}
 use Rattle.strings.specs.Strings.{strings_from, is_ended}
 use Rattle.format.specs.Sizes.{nindex_limit}
 use Rattle.format.specs.declared.section.Structure.{Structure}
 use Rattle.format.specs.declared.section.Structure.TheVariants.{Signature, Header}
 use Rattle.format.specs.declared.records.IndexRecord.{IndexRecord}
-use Rattle.format.specs.declared.verdict.Verdict.{Verdict}
-use Rattle.format.specs.declared.verdict.Verdict.TheVariants.{Pass}
-use Rattle.format.specs.Verdicts.{check, both}
+use Rattle.format.specs.Verdicts.{check, both, Verdict, pass}
 use Rattle.entries.specs.declared.types.ElementSize.{ElementSize}
-use Rattle.entries.specs.declared.types.ElementSize.TheVariants.{Bytes, ToZero, Unlawful}
+use Rattle.entries.specs.declared.types.ElementSize.TheVariants.{Bytes, ToZero}
 use Rattle.entries.specs.Types.{element_size}
 use Rattle.entries.specs.Entries.{type_lawful, count_right}
 use Rattle.put.specs.Puts.{bytes_of, zeros}
@@ -24,14 +20,14 @@ record_of entry offset =
     record { tag = entry.tag; ty = entry.ty; offset = record { 0 = offset }; count = entry.count }
 
 -- its data is exactly what type and count say: size × count bytes, or count strings and nothing behind the last zero
-abbrev pub ends_at : Ending → ℕ → Bool
-ends_at (Ends to) end = eqb to end
-ends_at Open end = false
+abbrev pub ends_at : Option ℕ → ℕ → Bool
+ends_at (Some to) end = eqb to end
+ends_at None end = false
 
-abbrev pub exact_for : ElementSize → ℕ → List ℕ → Bool
-exact_for (Bytes n) count bytes = eqb (n * count) (length bytes)
-exact_for ToZero count bytes = ends_at (strings_from bytes (length bytes) 0 count) (length bytes)
-exact_for Unlawful count bytes = false
+abbrev pub exact_for : Option ElementSize → ℕ → List ℕ → Bool
+exact_for (Some (Bytes n)) count bytes = eqb (n * count) (length bytes)
+exact_for (Some ToZero) count bytes = ends_at (strings_from bytes (length bytes) 0 count) (length bytes)
+exact_for None count bytes = false
 
 unfoldable pub data_exact : ℕ → ℕ → List ℕ → Bool
 data_exact ty count bytes = exact_for (element_size ty) count bytes
@@ -48,10 +44,10 @@ entry_reasons structure seen entry =
     (check (count_right structure (record_of entry 0)) 32 0
     (check (data_exact entry.ty entry.count entry.bytes) 32 0
     (check (not (tag_in entry.tag seen)) 32 0
-    Pass)))
+    pass)))
 
 unfoldable pub entries_reasons : Structure → List ℕ → List ListEntry → Verdict
-entries_reasons structure seen [] = Pass
+entries_reasons structure seen [] = pass
 entries_reasons structure seen (entry ∷ rest) =
     both (entry_reasons structure seen entry) (entries_reasons structure (entry.tag ∷ seen) rest)
 
@@ -91,14 +87,14 @@ name_reasons name =
     check (leb 1 (length name)) 32 0
     (check (leb (length name) name_limit) 32 0
     (check (not (has_zero name)) 32 0
-    Pass))
+    pass))
 
 -- a list as it is lent: well-formed
 unfoldable pub form_reasons : List ℕ → List ℕ → Verdict
 form_reasons list row =
     check (is_whole list) 32 0
     (check (sizes_meet list row) 32 0
-    Pass)
+    pass)
 
 -- 32 for a name and two lists as they are lent. The signature's list is tested with the 1000 and the 1004 that come first, so
 -- that one of the caller's is a repeated tag; they pass whatever the number and the 16 bytes are.
@@ -127,4 +123,4 @@ known_reasons structure repeated entry =
     (check (data_exact entry.ty entry.count entry.bytes) 32 0
     (check (not (tag_in entry.tag (own_tags structure))) 32 0
     (check (not repeated) 32 0
-    Pass))))
+    pass))))

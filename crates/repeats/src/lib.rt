@@ -44,42 +44,30 @@ fn rises(s: &[u8], n: u32) -> bool
     true
 }
 
-// The higher of two tags.
-fn higher(a: u32, b: u32) -> u32
-    ensures { (a ≤ result) × (b ≤ result) }
-{
-    if a < b { b } else { a }
-}
-
 // Whether one of the first `i` records has the tag. None of their tags is over `highest`, and the flag of each is set.
-fn is_repeated(s: &[u8], i: u32, highest: u32, flags: &[u64; Flags::WORDS], tag: u32) -> bool
-    requires { AtMost s.now i highest × Marked s.now i flags.now }
+fn is_repeated(s: &[u8], i: u32, highest: u32, flags: &Flags, tag: u32) -> bool
+    requires { AtMost s.now i highest × Marked s.now i flags.now.words }
     ensures { result ≡ tag_among s.now i tag }
 {
     if highest < tag {
         return false;
     }
-    if flags::is_set(flags, tag) {
-        return among::tag_among(s, i, tag);
-    }
-    false
+    flags.is_set(tag) && among::tag_among(s, i, tag)
 }
 
 // The same as `first`, for tags in any order.
 fn first_by_flags(s: &[u8], n: u32) -> u32
     ensures { result ≡ first_from (repeated_among s.now) n 0 }
 {
-    let mut flags = [0u64; Flags::WORDS];
+    let mut flags = Flags::new();
     let mut highest = 0;
-    let mut i = 0;
-    while i < n {
+    for i in 0..n {
         let tag = be::be32(s, IndexRecord::SIZE * i as usize);
         if is_repeated(s, i, highest, &flags, tag) {
             return i;
         }
-        highest = higher(highest, tag);
-        flags::set(&mut flags, tag);
-        i += 1;
+        highest = highest.max(tag);
+        flags.set(tag);
     }
     n
 }
@@ -89,12 +77,8 @@ fn first_by_flags(s: &[u8], n: u32) -> u32
 pub fn first(s: &[u8], n: u32) -> u32
     ensures { result ≡ first_from (repeated_among s.now) n 0 }
 {
-    if 1 <= n {
-        if IndexRecord::SIZE * n as usize <= s.len() {
-            if rises(s, n) {
-                return n;
-            }
-        }
+    if 1 <= n && IndexRecord::SIZE * n as usize <= s.len() && rises(s, n) {
+        return n;
     }
     first_by_flags(s, n)
 }

@@ -10,15 +10,12 @@ use lib.ListN.{length, length-append}
 use native.Mathlib.Omega.{arith}
 use Rattle.be.proofs.SameLaws.{same_eq, same_refl}
 use Rattle.format.specs.declared.section.Section.{Section}
-use Rattle.format.specs.declared.verdict.Verdict.TheVariants.{Pass}
 use Rattle.entries.specs.declared.types.ElementSize.TheVariants.{ToZero}
 use Rattle.entries.specs.Types.{element_size}
 use Rattle.entries.specs.Entries.{record_at}
 use Rattle.index.specs.declared.Entry.{Entry}
-use Rattle.index.specs.declared.Found.TheVariants.{At}
 use Rattle.index.specs.Lookup.{entry_at, find_in}
 use Rattle.package.specs.Package.{sound_check, header_at}
-use Rattle.lookups.specs.declared.Sought.TheVariants.{Here}
 use Rattle.lookups.specs.Lookup.{sought, sought_bytes}
 use Rattle.lookups.specs.Theorems.{RecordFor}
 use Rattle.lookups.proofs.FoundLaws.{structure_fits_lem, entry_sound, sought_here, record_of_found, found_of_record}
@@ -27,31 +24,31 @@ use Rattle.elements.specs.Elements.{element_of, sought_element, find_element_byt
 use Rattle.elements.proofs.ElementFound.{element_found}
 use Rattle.elements.proofs.SingleLaws.{string_split}
 use Rattle.elements.proofs.ElementTheorems.{element_exact}
-use Rattle.required.specs.declared.Named.TheVariants.{Number}
-use Rattle.required.specs.declared.Requirement.TheVariants.{Beside}
 use Rattle.required.specs.Version.{text_of, number_from, requirement_as, requirement_for}
 use Rattle.required.specs.Theorems.{StringArrays, IsName}
 use Rattle.required.proofs.MatchLaws.{matches, first_match, some_match, match_of, in_arrays, Arrays, arrays_of}
+use Rattle.std.specs.Prelude.{Some, Ok}
+use Rattle.format.specs.Verdicts.{pass}
 
 not_empty : (name : List ℕ) → name ++ (0 ∷ []) ≢ []
 not_empty name h = let z = ap length h in omega (arith, length-append name (0 ∷ []))
 
 -- an entry of the header, found by its record
-module _ (s : List ℕ) (tag ty i : ℕ) (h : sound_check s ≡ Pass) (r : RecordFor s (header_at s) tag ty i) where
-  found : sought s 1 tag ty ≡ Here (entry_at s (header_at s) i)
+module _ (s : List ℕ) (tag ty i : ℕ) (h : sound_check s ≡ pass) (r : RecordFor s (header_at s) tag ty i) where
+  found : sought s 1 tag ty ≡ Ok (entry_at s (header_at s) i)
   found = found_of_record s 1 tag ty h i r
 
-  pub found_in : find_in s (header_at s) tag ty ≡ At (entry_at s (header_at s) i)
+  pub found_in : find_in s (header_at s) tag ty ≡ Some (entry_at s (header_at s) i)
   unfolding sought
   found_in = (sought_here (sound_check s) (find_in s (header_at s) tag ty) (entry_at s (header_at s) i) found).1
 
   pub shown : (k : ℕ) → k < (record_at s (header_at s) i).count
-      → sought_element s 1 tag ty k ≡ Here (element_of s (entry_at s (header_at s) i) k)
+      → sought_element s 1 tag ty k ≡ Ok (element_of s (entry_at s (header_at s) i) k)
   shown k l = element_found s 1 tag ty k (entry_at s (header_at s) i) found l
 
 -- a string array
-module _ (s : List ℕ) (tag i : ℕ) (h : sound_check s ≡ Pass) (r : RecordFor s (header_at s) tag 8 i) where
-  pub strings : element_size (record_at s (header_at s) i).ty ≡ ToZero
+module _ (s : List ℕ) (tag i : ℕ) (h : sound_check s ≡ pass) (r : RecordFor s (header_at s) tag 8 i) where
+  pub strings : element_size (record_at s (header_at s) i).ty ≡ Some ToZero
   unfolding element_size
   strings = rw r.typed
 
@@ -98,8 +95,8 @@ module _ (s name : List ℕ) (a : StringArrays s) where
       go true e = absurd (n (is_name m l e))
       go false e = refl
 
-  numbered : {k : ℕ} → number_from s name names names.count 0 ≡ Number k
-      → requirement_for s name ≡ Beside (header_at s) (entry_at s (header_at s) a.versions) k
+  numbered : {k : ℕ} → number_from s name names names.count 0 ≡ Some k
+      → requirement_for s name ≡ Ok (record { header = (header_at s); versions = (entry_at s (header_at s) a.versions); number = k })
   unfolding names
   numbered h =
       in_arrays s name (entry_at s (header_at s) a.names) (entry_at s (header_at s) a.versions) a.sound
@@ -107,7 +104,7 @@ module _ (s name : List ℕ) (a : StringArrays s) where
       a.counts ∙ ap (requirement_as (header_at s) (entry_at s (header_at s) a.versions)) h
 
   pub required_first : (k : ℕ) → IsName s name k → ((m : ℕ) → m < k → IsName s name m → ⊥)
-      → requirement_for s name ≡ Beside (header_at s) (entry_at s (header_at s) a.versions) k
+      → requirement_for s name ≡ Ok (record { header = (header_at s); versions = (entry_at s (header_at s) a.versions); number = k })
   unfolding names
   required_first k h f =
       let l = name_below k h in
@@ -116,7 +113,7 @@ module _ (s name : List ℕ) (a : StringArrays s) where
 
   pub required_some : (k : ℕ) → IsName s name k
       → (i : ℕ) × (i < (record_at s (header_at s) a.names).count)
-      × (requirement_for s name ≡ Beside (header_at s) (entry_at s (header_at s) a.versions) i)
+      × (requirement_for s name ≡ Ok (record { header = (header_at s); versions = (entry_at s (header_at s) a.versions); number = i }))
   unfolding names
   required_some k h =
       let l = name_below k h in
@@ -125,7 +122,7 @@ module _ (s name : List ℕ) (a : StringArrays s) where
 
 -- a requirement that was found
 module _ (s name : List ℕ) {header : Section} {versions : Entry} {k : ℕ}
-    (h : requirement_for s name ≡ Beside header versions k) where
+    (h : requirement_for s name ≡ Ok (record { header = header; versions = versions; number = k })) where
   pub arrays : Arrays s name header versions k
   arrays = arrays_of s name h
 

@@ -12,19 +12,20 @@ use Rattle.lookups.specs.Lookup.{sought_bytes}
 use Rattle.elements.specs.Elements.{find_element_bytes}
 use Rattle.elements.proofs.ElementTheorems.{element_exact, element_shows}
 use Rattle.required.specs.declared.Requirement.{Requirement}
-use Rattle.required.specs.declared.Requirement.TheVariants.{Beside, Refused}
 use Rattle.required.specs.Version.{requirement_for, version_of, sought_version, required_version}
 use Rattle.required.specs.Theorems.{StringArrays, IsName, VersionExact, VersionElse, VersionBeside, VersionZero}
 use Rattle.required.proofs.RequirementLaws.{shown, strings, name_below, required_first, required_some, required_of}
+use Rattle.std.specs.Prelude.{Result, Ok, Err}
+use Rattle.format.specs.declared.verdict.Refusal.{Refusal}
 
 -- the version of a requirement is what an element look-up shows
 beside : (s name : List ℕ) (a : StringArrays s) (k : ℕ) → k < (record_at s (header_at s) a.names).count
-    → requirement_for s name ≡ Beside (header_at s) (entry_at s (header_at s) a.versions) k
+    → requirement_for s name ≡ Ok (record { header = (header_at s); versions = (entry_at s (header_at s) a.versions); number = k })
     → required_version s name ≡ find_element_bytes s 1 1050 8 k
 unfolding sought_version
 beside s name a k l h =
     let c = a.counts in
-    ap (λ (r : Requirement). sought_bytes s (version_of s r)) h
+    ap (λ (r : Result Requirement Refusal). sought_bytes s (version_of s r)) h
     ∙ sym (ap (sought_bytes s) (shown s 1050 8 a.versions a.sound a.versioned k (omega arith)))
 
 pub version_beside : VersionBeside
@@ -34,10 +35,10 @@ pub version_exact : VersionExact
 unfolding sought_version
 version_exact s name = (go (requirement_for s name) refl, back)
   where
-    go : (x : Requirement) → requirement_for s name ≡ x → sought_bytes s (version_of s x) ≢ []
+    go : (x : Result Requirement Refusal) → requirement_for s name ≡ x → sought_bytes s (version_of s x) ≢ []
         → StringArrays s × (k : ℕ) × IsName s name k
-    go (Refused number place) e n = absurd (n refl)
-    go (Beside header versions k) h n = let r = required_of s name h in (r.0, k, r.1)
+    go (Err refused) e n = absurd (n refl)
+    go (Ok wanted) h n = let r = required_of s name h in (r.0, wanted.number, r.1)
 
     back : StringArrays s × (k : ℕ) × IsName s name k → required_version s name ≢ []
     back r z =

@@ -1,16 +1,16 @@
 -- Document 01, "Numbers the station shows": what the required version promises, in the words of look-ups and element
 -- look-ups. Each is proved in proofs/ under its name in small letters: VersionExact as version_exact.
 use Rattle.std.specs.Prelude.{ℕ, ◌<◌, ◌≡◌, ◌↔◌, ◌≢◌, List, [], ◌∷◌, ◌++◌, length, get_or}
-use Rattle.format.specs.declared.verdict.Verdict.TheVariants.{Pass}
 use Rattle.entries.specs.Entries.{record_at}
 use Rattle.package.specs.Package.{sound_check, header_at}
 use Rattle.lookups.specs.Theorems.{RecordFor}
 use Rattle.elements.specs.Elements.{find_element_bytes}
 use Rattle.required.specs.Version.{required_version}
+use Rattle.format.specs.Verdicts.{pass}
 
 -- checks 2 to 13 and 28 pass, and the header's 1049 and 1050 are string arrays (type 8) of one count
 pub record StringArrays (s : List ℕ) : Type 0 where
-  pub sound : sound_check s ≡ Pass
+  pub sound : sound_check s ≡ pass
   pub names : ℕ
   pub versions : ℕ
   pub named : RecordFor s (header_at s) 1049 8 names

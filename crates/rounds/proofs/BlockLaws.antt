@@ -1,41 +1,17 @@
--- Blocks of a message, one after the other: one more turn of the loop over them, blocks of a front, in two runs, and from a
--- place on.
+-- Blocks of a message, one after the other: blocks of a front, in two runs, and from a place on; one more turn of the loop
+-- over them, and its end.
 -- Assumes nothing.
 use mathlib.Core.Path.{◌≡◌, refl, sym, ap, ◌∙◌}
 use mathlib.Core.List.{List, ◌++◌}
-use Prim.Native.Nat.{ℕ, zero, suc, ◌+◌, ◌-◌, ◌*◌, ◌<◌, ◌≤◌}
+use Prim.Native.Nat.{ℕ, zero, suc, ◌+◌, ◌*◌, ◌/◌, ◌<◌, ◌≤◌}
 use native.Mathlib.Nat.{zero-add, add_assoc}
 use native.Mathlib.Omega.{arith}
-use lib.ListN.{length, take, drop, length-drop}
-use lib.Seq.{drop-append-le, take-append-le, drop-drop}
+use lib.ListN.{length, take, drop, length-drop, length-append}
+use lib.Seq.{drop-append-le, take-append-le, drop-drop, take_at, drop_at}
 use Rattle.words.specs.declared.State.{State}
-use Rattle.words.specs.declared.Round.TheVariants.{One, Two, Three, Four}
-use Rattle.words.specs.Words.{increased}
-use Rattle.rounds.specs.Rounds.{round, block, blocks}
-
--- the registers as `one_block` makes them
-pub block_is : (X T : List ℕ) (q q1 q2 q3 q4 p : State) → q1 ≡ round One X T q → q2 ≡ round Two X T q1 → q3 ≡ round Three X T q2
-    → q4 ≡ round Four X T q3 → p ≡ increased q q4 → p ≡ block X T q
-unfolding block
-block_is X T q q1 q2 q3 q4 p h1 h2 h3 h4 hp = rw (hp, h4, h3, h2, h1)
+use Rattle.rounds.specs.Rounds.{block, blocks}
 
 module _ (s T : List ℕ) where
-  blocks_suc : (n at : ℕ) (q : State) → blocks s T (suc n) at q ≡ blocks s T n (at + 64) (block (take 64 (drop at s)) T q)
-  unfolding blocks
-  blocks_suc n at q = refl
-
-  pub next_block : (n at : ℕ) (q p goal : State) → 0 < n → goal ≡ blocks s T n at q
-      → p ≡ block (take (at + 64 - at) (drop at s)) T q → goal ≡ blocks s T (n - 1) (at + 64) p
-  next_block n at q p goal h inv e =
-      let k : n ≡ suc (n - 1) = omega arith in
-      let l : at + 64 - at ≡ 64 = omega arith in
-      inv ∙ ap (λ (m : ℕ). blocks s T m at q) k ∙ blocks_suc (n - 1) at q
-      ∙ ap (blocks s T (n - 1) (at + 64)) (sym (e ∙ ap (λ (m : ℕ). block (take m (drop at s)) T q) l))
-
-  pub last_block : (n at : ℕ) (q goal : State) → n ≤ 0 → goal ≡ blocks s T n at q → q ≡ goal
-  unfolding blocks
-  last_block n at q goal h inv = let k : n ≡ 0 = omega arith in sym (inv ∙ ap (λ (m : ℕ). blocks s T m at q) k)
-
   pub blocks_append : (rest : List ℕ) (n at : ℕ) (q : State) → at + 64 * n ≤ length s
       → blocks (s ++ rest) T n at q ≡ blocks s T n at q
   unfolding blocks
@@ -65,3 +41,25 @@ module _ (s T : List ℕ) where
       ap (λ (k : ℕ). blocks s T n k (block (take 64 (drop (from + at) s)) T q)) (add_assoc from at 64)
       ∙ blocks_drop n from (at + 64) (block (take 64 (drop (from + at) s)) T q)
       ∙ ap (λ (l : List ℕ). blocks (drop from s) T n (at + 64) (block (take 64 l) T q)) (sym (drop-drop at from s))
+
+module _ (T : List ℕ) where
+  -- a block comes off the front
+  pub next_block : (part rest all : List ℕ) (q p goal : State) → goal ≡ blocks all T (length all / 64) 0 q
+      → (all ≡ part ++ rest) × (length part ≡ 64) → p ≡ block part T q → goal ≡ blocks rest T (length rest / 64) 0 p
+  unfolding blocks
+  next_block part rest all q p goal inv h e =
+      let n = length rest / 64 in
+      let k : length all / 64 ≡ suc n = omega (arith, ap length h.0, length-append part rest, h.1) in
+      let front : take 64 all ≡ part = ap (take 64) h.0 ∙ take_at part rest 64 h.1 in
+      let behind : drop 64 all ≡ rest = ap (drop 64) h.0 ∙ drop_at part rest 64 h.1 in
+      inv ∙ ap (λ (m : ℕ). blocks all T m 0 q) k
+      ∙ ap (λ (l : List ℕ). blocks all T n 64 (block l T q)) front
+      ∙ blocks_drop all T n 64 0 (block part T q)
+      ∙ ap (λ (l : List ℕ). blocks l T n 0 (block part T q)) behind
+      ∙ ap (blocks rest T n 0) (sym e)
+
+  pub last_block : (rest : List ℕ) (q goal : State) → length rest < 64 → goal ≡ blocks rest T (length rest / 64) 0 q → q ≡ goal
+  unfolding blocks
+  last_block rest q goal h inv =
+      let k : length rest / 64 ≡ 0 = omega arith in
+      sym (inv ∙ ap (λ (m : ℕ). blocks rest T m 0 q) k)

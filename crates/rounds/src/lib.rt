@@ -5,7 +5,7 @@ ghost use Rattle.std.specs.Prelude.{◌≡◌, ◌/◌, ◌<◌, ◌≤◌, leng
 ghost use Rattle.words.specs.Words.{word_at};
 ghost use Rattle.rounds.specs.Table.{table};
 ghost use Rattle.rounds.specs.Rounds.{round, block, blocks};
-ghost use Rattle.rounds.specs.Steps.{word_of, first_of, shifts, shift_of, turned, step};
+ghost use Rattle.rounds.specs.Steps.{word_of, first_of, shift_of, turned, step};
 
 use words::{Round, State};
 
@@ -22,6 +22,7 @@ const T: [u32; 64] = [
 ];
 
 // The table T. A caller takes it once and lends it: an index of T itself in a loop would copy the table.
+#[tactic(auto, unfolding(crate::specs::Table::table))]
 pub fn table() -> [u32; 64]
     ensures { result ≡ table }
 {
@@ -29,6 +30,7 @@ pub fn table() -> [u32; 64]
 }
 
 // The word that a round takes in its n-th step.
+#[tactic(auto, unfolding(crate::specs::Steps::word_of))]
 fn word_of(r: Round, n: usize) -> usize
     requires { n < 16 }
     ensures { (result ≡ word_of r n) × (result < 16) }
@@ -53,52 +55,55 @@ fn first_of(r: Round) -> usize
     }
 }
 
-// The shifts of a round's first four steps; they come round again.
-fn shifts_of(r: Round) -> [u32; 4]
-    ensures { result ≡ shifts r }
+// The shift of a round's n-th step: its first four come round again.
+#[tactic(auto, unfolding(crate::specs::Steps::shift_of, crate::specs::Steps::shifts))]
+fn shift_of(r: Round, n: usize) -> u32
+    ensures { (result ≡ shift_of r n) × (result < 32) }
 {
-    match r {
-        Round::One => [7, 12, 17, 22],
-        Round::Two => [5, 9, 14, 20],
-        Round::Three => [4, 11, 16, 23],
-        Round::Four => [6, 10, 15, 21],
-    }
+    let shifts: &[u32; 4] = match r {
+        Round::One => &[7, 12, 17, 22],
+        Round::Two => &[5, 9, 14, 20],
+        Round::Three => &[4, 11, 16, 23],
+        Round::Four => &[6, 10, 15, 21],
+    };
+    shifts[n % 4]
 }
 
 // Word k of a block.
+#[tactic(auto, unfolding(words::specs::Words::word_at))]
 fn word(block: &[u8], k: usize) -> u32
     requires { (k < 16) × (length block.now ≡ 64) }
     ensures { result ≡ word_at block.now k }
 {
     let at = 4 * k;
-    words::join(block[at], block[at + 1], block[at + 2], block[at + 3])
+    u32::from_le_bytes([block[at], block[at + 1], block[at + 2], block[at + 3]])
 }
 
 // The registers after a step, moved one place on.
+#[tactic(auto, using(words::proofs::RotateLaws::rotate_left_is), unfolding(crate::specs::Steps::turned))]
 fn turn(q: State, mixed: u32, x: u32, t: u32, s: u32) -> State
     requires { s < 32 }
     ensures { result ≡ turned q mixed x t s }
 {
-    let moved = words::rotate(words::add_4(q.a, mixed, x, t), s);
+    let sum = q.a.wrapping_add(mixed).wrapping_add(x).wrapping_add(t);
     State {
         a: q.d,
-        b: words::add(q.b, moved),
+        b: q.b.wrapping_add(sum.rotate_left(s)),
         c: q.b,
         d: q.c,
     }
 }
 
-// Step n of a round, with its shift.
-fn one_step(r: Round, part: &[u8], t: &[u32; 64], n: usize, s: u32, q: State) -> State
+// Step n of a round.
+#[tactic(auto, unfolding(crate::specs::Steps::step))]
+fn one_step(r: Round, part: &[u8], t: &[u32; 64], n: usize, q: State) -> State
     requires n_bound { n < 16 }
-    requires s_value { s ≡ shift_of r n }
     requires part_len { length part.now ≡ 64 }
     ensures { result ≡ step r part.now t.now n q }
 {
     let x = word(part, word_of(r, n));
-    let i = first_of(r) + n;
-    let constant = t[i];
-    turn(q, words::mix(r, q.b, q.c, q.d), x, constant, s)
+    let constant = t[first_of(r) + n];
+    turn(q, r.mix(q.b, q.c, q.d), x, constant, shift_of(r, n))
 }
 
 // A round: its 16 operations.
@@ -107,25 +112,14 @@ fn one_round(r: Round, part: &[u8], t: &[u32; 64], begin: State) -> State
     ensures { result ≡ round r part.now t.now begin }
 {
     let mut q = begin;
-    let mut n: usize = 0;
-    let first = shifts_of(r);
-    let mut s0 = first[0];
-    let mut s1 = first[1];
-    let mut s2 = first[2];
-    let mut s3 = first[3];
-    while n < 16 {
-        q = one_step(r, part, t, n, s0, q);
-        let s = s0;
-        s0 = s1;
-        s1 = s2;
-        s2 = s3;
-        s3 = s;
-        n += 1;
+    for n in 0..16 {
+        q = one_step(r, part, t, n, q);
     }
     q
 }
 
 // One block: the four rounds, then the registers are increased.
+#[tactic(auto, unfolding(crate::specs::Rounds::block))]
 fn one_block(part: &[u8], t: &[u32; 64], q: State) -> State
     requires { length part.now ≡ 64 }
     ensures { result ≡ block part.now t.now q }
@@ -134,7 +128,7 @@ fn one_block(part: &[u8], t: &[u32; 64], q: State) -> State
     let q2 = one_round(Round::Two, part, t, q1);
     let q3 = one_round(Round::Three, part, t, q2);
     let q4 = one_round(Round::Four, part, t, q3);
-    words::increase(q, q4)
+    q4.increase(q)
 }
 
 // The whole blocks of some bytes, with a table.
@@ -142,14 +136,8 @@ pub fn run(s: &[u8], t: &[u32; 64], begin: State) -> State
     ensures { result ≡ blocks s.now t.now (length s.now / 64) 0 begin }
 {
     let mut q = begin;
-    let mut at: usize = 0;
-    let mut left = s.len() / 64;
-    while 0 < left {
-        let end = at + 64;
-        let part = &s[at..end];
+    for part in s.chunks_exact(64) {
         q = one_block(part, t, q);
-        at = end;
-        left -= 1;
     }
     q
 }

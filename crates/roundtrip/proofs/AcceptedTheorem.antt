@@ -3,7 +3,7 @@ use Prim.Native.Nat.{ℕ}
 use mathlib.Core.Path.{◌≡◌}
 use mathlib.Core.List.{List}
 use lib.ListN.{length}
-use Rattle.format.specs.declared.verdict.Verdict.TheVariants.{Pass}
+use Rattle.format.specs.Verdicts.{pass}
 use Rattle.lists.specs.Lists.{entries_of}
 use Rattle.plan.specs.Refusals.{write_check}
 use Rattle.roundtrip.specs.Lawful.{LentAs, LawfulWriting}
@@ -20,7 +20,7 @@ lent_as list row o f =
     record { numbers = k.0; rows = k.1; wide = wide_of list row o }
 
 module _ (name signature signatureRow header headerRow : List ℕ) (room : ℕ) where
-  rules : Octets signature → Octets header → write_check name signature signatureRow header headerRow room ≡ Pass
+  rules : Octets signature → Octets header → write_check name signature signatureRow header headerRow room ≡ pass
       → LawfulWriting name signature signatureRow header headerRow room
   rules os oh h =
       let a = (accepted name signature signatureRow header headerRow room).0 h in
@@ -44,7 +44,7 @@ module _ (name signature signatureRow header headerRow : List ℕ) (room : ℕ) 
       }
 
   passes : LawfulWriting name signature signatureRow header headerRow room
-      → write_check name signature signatureRow header headerRow room ≡ Pass
+      → write_check name signature signatureRow header headerRow room ≡ pass
   passes r =
       let s = r.signed_lent in
       let t = r.headed_lent in

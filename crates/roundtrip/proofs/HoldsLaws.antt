@@ -1,6 +1,6 @@
 -- Bytes that stand in a list from a place on (Holds): their parts (front, rest), and the byte, the part, the number, the
 -- four numbers and the strings that are read there. The first byte from a place on, and those behind it: next_byte.
-use Prim.Native.Nat.{ℕ, zero, suc, ◌+◌, ◌*◌, ◌/◌, ◌%◌, ◌≤◌, ◌<◌}
+use Prim.Native.Nat.{ℕ, zero, suc, ◌+◌, ◌/◌, ◌%◌, ◌≤◌, ◌<◌}
 use mathlib.Core.Path.{◌≡◌, refl, sym, ap, ◌∙◌}
 use mathlib.Core.List.{List, [], ◌∷◌, ◌++◌, append_assoc, append-nil}
 use mathlib.Core.Bool.{Bool, true, false, cond}
@@ -9,9 +9,8 @@ use lib.Seq.{get_or-append-add, drop_at, drop-cons, take-append_seam}
 use lib.Dec.{eqb}
 use native.Mathlib.Omega.{arith}
 use native.Mathlib.Numerals.{add-one}
+use Rattle.std.specs.Prelude.{Option, Some}
 use Rattle.be.specs.Numbers.{be32_at}
-use Rattle.strings.specs.declared.Ending.{Ending}
-use Rattle.strings.specs.declared.Ending.TheVariants.{Ends}
 use Rattle.strings.specs.Strings.{strings_from}
 use Rattle.put.specs.Puts.{bytes_of, four_bytes}
 
@@ -62,14 +61,6 @@ module _ {p : List ℕ} {k : ℕ} {xs : List ℕ} (h : Holds p k xs) where
       let g = h.place in
       omega arith
 
-joined : (n : ℕ) → n < 4294967296
-    → n / 16777216 % 256 * 16777216 + n / 65536 % 256 * 65536 + n / 256 % 256 * 256 + n % 256 ≡ n
-joined n l =
-    let a : n / 256 / 256 ≡ n / 65536 = omega arith in
-    let b : n / 65536 / 256 ≡ n / 16777216 = omega arith in
-    let c : n / 16777216 % 256 ≡ n / 16777216 = omega arith in
-    omega arith
-
 pub number : {p : List ℕ} {k : ℕ} (n : ℕ) → n < 4294967296 → Holds p k (bytes_of n) → be32_at p k ≡ n
 unfolding be32_at bytes_of
 number {p} {k} n l h =
@@ -78,7 +69,7 @@ number {p} {k} n l h =
     let b : get_or p (k + 1) 0 ≡ n / 65536 % 256 = byte h 1 (omega arith) in
     let c : get_or p (k + 2) 0 ≡ n / 256 % 256 = byte h 2 (omega arith) in
     let d : get_or p (k + 3) 0 ≡ n % 256 = byte h 3 (omega arith) in
-    rw (a, b, c, d) (joined n l)
+    omega arith
 
 pub record Four (p : List ℕ) (k a b c d : ℕ) : Type 0 where
   pub first : be32_at p k ≡ a
@@ -101,16 +92,16 @@ four {k = k} a b c d la lb lc ld h =
     }
 
 -- what is shown of both sides of a choice
-either : (b : Bool) {x y x' y' v v' : Ending} → (x ≡ v → x' ≡ v') → (y ≡ v → y' ≡ v') → cond b x y ≡ v → cond b x' y' ≡ v'
+either : (b : Bool) {x y x' y' v v' : Option ℕ} → (x ≡ v → x' ≡ v') → (y ≡ v → y' ≡ v') → cond b x y ≡ v → cond b x' y' ≡ v'
 either true f g h = f h
 either false f g h = g h
 
 -- strings that end in the bytes end at the same place of the list, with that room or more
 pub strings : {p : List ℕ} {k : ℕ} {xs : List ℕ} → Holds p k xs → (room at count e more : ℕ) → at + room ≤ length xs
-    → room ≤ more → strings_from xs room at count ≡ Ends e → strings_from p more (k + at) count ≡ Ends (k + e)
+    → room ≤ more → strings_from xs room at count ≡ Some e → strings_from p more (k + at) count ≡ Some (k + e)
 unfolding strings_from
 strings {k = k} h room at zero e more l m s = let q : at ≡ e = cc in rw q
-strings h zero at (suc count) e more l m s = let z : ◌≡◌ {A = ℕ} 0 1 = cc in absurd (omega arith)
+strings h zero at (suc count) e more l m s = absurd cc
 strings h (suc room) at (suc count) e zero l m s = absurd (omega arith)
 strings {p} {k} {xs} h (suc room) at (suc count) e (suc more) l m s =
     let next : k + at + 1 ≡ k + (at + 1) = omega arith in

@@ -9,12 +9,13 @@ use lib.ListN.{length}
 use lib.Dec.{eqb}
 use native.Mathlib.Omega.{arith}
 use borrow.Author.Tests.{eqb-true, eqb-false, eq-eqb}
+use Rattle.std.specs.Prelude.{Option, Some, None}
 use Rattle.format.specs.Sizes.{nindex_limit}
 use Rattle.format.specs.declared.section.Structure.{Structure}
 use Rattle.format.specs.declared.section.Structure.TheVariants.{Signature, Header}
-use Rattle.format.specs.declared.verdict.Verdict.TheVariants.{Pass}
+use Rattle.format.specs.Verdicts.{pass}
 use Rattle.entries.specs.declared.types.ElementSize.{ElementSize}
-use Rattle.entries.specs.declared.types.ElementSize.TheVariants.{Bytes, ToZero, Unlawful}
+use Rattle.entries.specs.declared.types.ElementSize.TheVariants.{Bytes, ToZero}
 use Rattle.entries.specs.Types.{element_size, is_lawful}
 use Rattle.entries.proofs.RuleLaws.{type_lawful_lem, count_lawful}
 use Rattle.put.specs.Puts.{zeros}
@@ -28,26 +29,26 @@ use Rattle.roundtrip.proofs.TextLaws.{strings_exact}
 
 -- data that is exactly what type and count say
 module _ (count : ℕ) (bytes : List ℕ) where
-  abbrev Fixed : ElementSize → Type 0
-  Fixed size = (n : ℕ) → size ≡ Bytes n → length bytes ≡ n * count
+  abbrev Fixed : Option ElementSize → Type 0
+  Fixed size = (n : ℕ) → size ≡ Some (Bytes n) → length bytes ≡ n * count
 
-  exact_lawful : (size : ElementSize) → is_lawful size ≡ true
-      → (exact_for size count bytes ≡ true) ↔ (Fixed size × (size ≡ ToZero → Strings bytes count))
-  exact_lawful (Bytes m) t = (
+  exact_lawful : (size : Option ElementSize) → is_lawful size ≡ true
+      → (exact_for size count bytes ≡ true) ↔ (Fixed size × (size ≡ Some ToZero → Strings bytes count))
+  exact_lawful (Some (Bytes m)) t = (
     λ h. (
       λ n q. let w : m ≡ n = cc in rw (← w) (sym (eqb-true _ _ h)),
-      λ q. let z : ◌≡◌ {A = ℕ} 0 1 = cc in absurd (omega arith),
+      λ q. absurd cc,
     ),
     λ h. eq-eqb _ _ (sym (h.0 m refl)),
   )
-  exact_lawful ToZero t = (
+  exact_lawful (Some ToZero) t = (
     λ h. (
-      λ n q. let z : ◌≡◌ {A = ℕ} 0 1 = cc in absurd (omega arith),
+      λ n q. absurd cc,
       λ q. (strings_exact bytes count).0 (ends_exactly _ _ h),
     ),
     λ h. rw ((strings_exact bytes count).1 (h.1 refl)) (eq-eqb (length bytes) (length bytes) refl),
   )
-  exact_lawful Unlawful t = let z : ◌≡◌ {A = ℕ} 0 1 = cc in absurd (omega arith)
+  exact_lawful None t = absurd cc
 
 -- one entry
 entry_lawful : (structure : Structure) (seen : List ℕ) (entry : ListEntry)
@@ -85,7 +86,7 @@ fresh_step tag first seen = rw (in_step tag first seen) (go (eqb first tag) refl
   where
     go : (b : Bool) → eqb first tag ≡ b → ((b || tag_in tag seen) ≡ false) ↔ ((first ≢ tag) × (tag_in tag seen ≡ false))
     go true t = (
-      λ h. let z : ◌≡◌ {A = ℕ} 0 1 = cc in absurd (omega arith),
+      λ h. absurd cc,
       λ h. absurd (h.0 (eqb-true _ _ t)),
     )
     go false t = (λ h. (eqb-false _ _ t, h), λ h. h.1)
@@ -142,12 +143,12 @@ module _ (structure : Structure) (seen : List ℕ) (entry : ListEntry) (rest : L
         ),
   )
 
-none_pass : (structure : Structure) (seen : List ℕ) → entries_reasons structure seen [] ≡ Pass
+none_pass : (structure : Structure) (seen : List ℕ) → entries_reasons structure seen [] ≡ pass
 unfolding entries_reasons
 none_pass structure seen = refl
 
 entries_lawful : (structure : Structure) (entries : List ListEntry) (seen : List ℕ)
-    → (entries_reasons structure seen entries ≡ Pass) ↔ (LawfulEntries structure entries × Fresh seen entries)
+    → (entries_reasons structure seen entries ≡ pass) ↔ (LawfulEntries structure entries × Fresh seen entries)
 entries_lawful structure [] seen = (
   λ h. (record { each = λ i l. absurd (omega arith); once = λ i j l. absurd (omega arith) }, λ i l. absurd (omega arith)),
   λ h. none_pass structure seen,

@@ -12,8 +12,7 @@ use Rattle.strings.specs.Strings.{strings_from, is_ended, next_zero}
 use Rattle.strings.proofs.StringLaws.{first_here, first_later}
 use Rattle.strings.proofs.RowLaws.{single_among}
 use Rattle.format.specs.Lead.{lead_of}
-use Rattle.format.specs.declared.verdict.Verdict.TheVariants.{Pass}
-use Rattle.format.specs.Verdicts.{check}
+use Rattle.format.specs.Verdicts.{check, pass}
 use Rattle.package.specs.Lead.{lead_check}
 use Rattle.put.specs.Puts.{bytes_of, zeros}
 use Rattle.layout.specs.Layout.{name_bytes, lead_bytes}
@@ -79,7 +78,7 @@ module _ (name : List ℕ) (lawful : LawfulName name) where
         let w = lawful.within in
         (single_among p 66 10).1 (10 + length name, omega arith, omega arith, behind_name)
 
-    pub lead_pass : lead_check (lead_of p) ≡ Pass
+    pub lead_pass : lead_check (lead_of p) ≡ pass
     unfolding lead_check check be16_at bytes_of
     lead_pass =
         let m = number 0xEDABEEDB (omega arith) (front (bytes_of 0xEDABEEDB) (3 ∷ 0 ∷ 0 ∷ 0 ∷ 0 ∷ 0 ∷ []) fixed_here) in

@@ -8,7 +8,7 @@ use lib.ListN.{length, get_or, take, drop, length-append, length-take, length-dr
 use lib.Seq.{drop-drop, length-take-le}
 use native.Mathlib.Omega.{arith}
 use Rattle.be.specs.Numbers.{be32_at}
-use Rattle.format.specs.declared.verdict.Verdict.TheVariants.{Pass}
+use Rattle.format.specs.Verdicts.{pass}
 use Rattle.put.specs.Puts.{bytes_of, four_bytes}
 use Rattle.put.proofs.PutLaws.{length_four}
 use Rattle.lists.specs.Lists.{ListEntry, list_of, row_of, size_at, entry_at, entries_from, entries_of, sizes_from}
@@ -103,7 +103,7 @@ module _ (name : List ℕ) (signature header : List ListEntry) (w : Writable nam
   lent_written = rw (lent_entries signature w.wide_signed, lent_entries header w.wide_headed)
 
   pub lent_accepted : (room : ℕ) → length (written name signature header) ≤ room
-      → write_check name (list_of signature) (row_of signature) (list_of header) (row_of header) room ≡ Pass
+      → write_check name (list_of signature) (row_of signature) (list_of header) (row_of header) room ≡ pass
   lent_accepted room l =
       (accepted name (list_of signature) (row_of signature) (list_of header) (row_of header) room).1
       (record {
@@ -126,7 +126,7 @@ bytes_back a b c d la lb lc ld =
     let e2 : n / 65536 % 256 ≡ b = omega arith in
     let e3 : n / 256 % 256 ≡ c = omega arith in
     let e4 : n % 256 ≡ d = omega arith in
-    rw (e1, e2, e3, e4)
+    cc
 
 module _ (s : List ℕ) (o : Octets s) where
   next_number : (k : ℕ) → k + 4 ≤ length s → drop k s ≡ bytes_of (be32_at s k) ++ drop (k + 4) s

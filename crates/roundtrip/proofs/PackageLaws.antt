@@ -12,8 +12,8 @@ use Rattle.be.proofs.SameLaws.{same_refl}
 use Rattle.format.specs.Sizes.{lead_size}
 use Rattle.format.specs.declared.section.Section.{Section}
 use Rattle.format.specs.declared.section.Structure.TheVariants.{Signature, Header}
-use Rattle.format.specs.declared.verdict.Verdict.TheVariants.{Pass}
 use Rattle.format.specs.Places.{section_end, align_up}
+use Rattle.format.specs.Verdicts.{pass}
 use Rattle.format.proofs.VerdictLaws.{passed, both_pass}
 use Rattle.structure.specs.Structure.{section_at, structure_check}
 use Rattle.index.specs.Lookup.{tagged_in}
@@ -136,7 +136,7 @@ module _ (name : List ℕ) (signature header : List ListEntry) (w : Writable nam
   header_at_lem : header_at p ≡ section_at p start
   header_at_lem = ap (section_at p) header_start_lem
 
-  size_pass : size_check (length p) ≡ Pass
+  size_pass : size_check (length p) ≡ pass
   unfolding size_check
   size_pass =
       let e = whole in
@@ -151,10 +151,10 @@ module _ (name : List ℕ) (signature header : List ListEntry) (w : Writable nam
       let e : end + (i - end) ≡ i = omega arith in
       rw e at (byte gap_here (i - end) (omega arith)) ∙ get_or-replicate (start - end) (i - end) 0 0 (omega arith)
 
-  gap_passes : gap_in p (length p) ≡ Pass
+  gap_passes : gap_in p (length p) ≡ pass
   gap_passes = rw signature_read.end ((gap_pass p (length p) end start).1 (λ i g. gap_zero i g.after g.before))
 
-  sound : sound_check p ≡ Pass
+  sound : sound_check p ≡ pass
   unfolding package_check structures_check
   sound =
       both_pass size_pass ∙ both_pass (lead_pass name w.named p lead_here)
@@ -181,7 +181,7 @@ module _ (name : List ℕ) (signature header : List ListEntry) (w : Writable nam
     header_reads : (k : ℕ) → k < length header → Reads p (structure_of p which) k (nth header k)
     header_reads k l = rw other (header_read.reads k l)
 
-  size_tag_lem : size_tag_check p (length p) (signature_at p) (header_at p) (tagged_in p (signature_at p)) ≡ Pass
+  size_tag_lem : size_tag_check p (length p) (signature_at p) (header_at p) (tagged_in p (signature_at p)) ≡ pass
   unfolding size_tag_check signature_of
   size_tag_lem =
       let e = whole in
@@ -191,7 +191,7 @@ module _ (name : List ℕ) (signature header : List ListEntry) (w : Writable nam
       let k = first_number p (signature_at p) size (suc (length signature)) (omega arith) signature_read.count r in
       sym (passed _ _ (eq-eqb _ _ (k ∙ sym size_is)) refl)
 
-  digest_passes : digest_check p (signature_at p) (header_at p) ≡ Pass
+  digest_passes : digest_check p (signature_at p) (header_at p) ≡ pass
   unfolding digest_check signature_of
   digest_passes =
       let stated : stated_in p (signature_at p) ≡ digested =

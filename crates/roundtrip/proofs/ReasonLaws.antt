@@ -11,7 +11,7 @@ use borrow.Author.Tests.{leb-true, le-leb, not-true}
 use Rattle.strings.proofs.RowLaws.{single_among}
 use Rattle.format.specs.Sizes.{package_limit}
 use Rattle.format.specs.declared.section.Structure.TheVariants.{Signature, Header}
-use Rattle.format.specs.declared.verdict.Verdict.TheVariants.{Pass}
+use Rattle.format.specs.Verdicts.{pass}
 use Rattle.format.proofs.VerdictLaws.{passed, inverted, both_pass, both_inverted}
 use Rattle.put.specs.Puts.{zeros}
 use Rattle.lists.specs.Lists.{ListEntry, entries_of}
@@ -28,15 +28,15 @@ zeroless name = go (has_zero name) (single_among name (length name) 0)
     go : (b : Bool) → (b ≡ true) ↔ ((i : ℕ) × (0 ≤ i) × (i < 0 + length name) × (get_or name i 0 ≡ 0))
         → (b ≡ false) ↔ ((i : ℕ) → i < length name → get_or name i 0 ≢ 0)
     go true f = (
-      λ h. let z : ◌≡◌ {A = ℕ} 0 1 = cc in absurd (omega arith),
+      λ h. absurd cc,
       λ h. let r = f.0 refl in absurd (h r.0 (omega arith) r.3),
     )
     go false f = (
-      λ h i l q. let z = f.1 (i, omega arith, omega arith, q) in let y : ◌≡◌ {A = ℕ} 0 1 = cc in omega arith,
+      λ h i l q. let z = f.1 (i, omega arith, omega arith, q) in cc,
       λ h. refl,
     )
 
-pub name_right : (name : List ℕ) → (name_reasons name ≡ Pass) ↔ LawfulName name
+pub name_right : (name : List ℕ) → (name_reasons name ≡ pass) ↔ LawfulName name
 unfolding name_reasons
 name_right name = (
   λ h.
@@ -74,7 +74,7 @@ pub record Accepted (name signature signatureRow header headerRow : List ℕ) (r
   pub fits : length (written_of name signature signatureRow header headerRow) ≤ room
 
 module _ (name signature signatureRow header headerRow : List ℕ) (room : ℕ) where
-  pub accepted : (write_check name signature signatureRow header headerRow room ≡ Pass)
+  pub accepted : (write_check name signature signatureRow header headerRow room ≡ pass)
       ↔ Accepted name signature signatureRow header headerRow room
   unfolding write_check reasons room_check
   accepted = (

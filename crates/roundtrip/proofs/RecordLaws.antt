@@ -9,19 +9,18 @@ use lib.Dec.{eqb}
 use native.Mathlib.Omega.{arith}
 use native.Mathlib.Numerals.{add-one}
 use borrow.Author.Tests.{eqb-true, eq-eqb, le-leb}
+use Rattle.std.specs.Prelude.{Option, Some, None}
 use Rattle.be.specs.Numbers.{be32_at}
-use Rattle.strings.specs.declared.Ending.{Ending}
-use Rattle.strings.specs.declared.Ending.TheVariants.{Ends, Open}
 use Rattle.strings.specs.Strings.{is_ended}
 use Rattle.format.specs.declared.section.Section.{Section}
 use Rattle.format.specs.declared.section.Structure.{Structure}
 use Rattle.format.specs.declared.records.IndexRecord.{IndexRecord}
-use Rattle.format.specs.declared.verdict.Verdict.TheVariants.{Pass}
 use Rattle.format.specs.Places.{record_place, store_place, align_up}
+use Rattle.format.specs.Verdicts.{pass}
 use Rattle.format.proofs.VerdictLaws.{passed}
 use Rattle.repeats.specs.Repeats.{tag_before}
 use Rattle.entries.specs.declared.types.ElementSize.{ElementSize}
-use Rattle.entries.specs.declared.types.ElementSize.TheVariants.{Bytes, ToZero, Unlawful}
+use Rattle.entries.specs.declared.types.ElementSize.TheVariants.{Bytes, ToZero}
 use Rattle.entries.specs.Types.{element_size}
 use Rattle.entries.specs.Entries.{record_at, type_lawful, count_right, aligned_to, is_aligned, end_for, data_end}
 use Rattle.entries.specs.Entries.{entry_check, record_check}
@@ -37,8 +36,8 @@ use Rattle.roundtrip.proofs.HoldsLaws.{Holds, front, rest, moved, part, four, st
 use Rattle.reasons.proofs.RightLaws.{EntryRight}
 
 -- data goes to a place at or after that up to which the store is filled, and is aligned there
-aligned : (a b c d : Bool) (at : ℕ) (size : ElementSize)
-    → cond a (Bytes 1) (cond b (Bytes 2) (cond c (Bytes 4) (cond d ToZero Unlawful))) ≡ size
+aligned : (a b c d : Bool) (at : ℕ) (size : Option ElementSize)
+    → cond a (Some (Bytes 1)) (cond b (Some (Bytes 2)) (cond c (Some (Bytes 4)) (cond d (Some ToZero) None))) ≡ size
     → (at ≤ align_for size at) × (aligned_to size (align_for size at) ≡ true)
 aligned true b c d at size h = rw (← h) (omega arith, eq-eqb (align_up 1 at % 1) 0 (omega arith))
 aligned false true c d at size h = rw (← h) (omega arith, eq-eqb (align_up 2 at % 2) 0 (omega arith))
@@ -52,31 +51,31 @@ offset_right ty at =
     aligned (eqb ty 1 || eqb ty 2 || eqb ty 7) (eqb ty 3) (eqb ty 4) (eqb ty 6 || eqb ty 8 || eqb ty 9) at (element_size ty)
     refl
 
-pub ends_exactly : (run : Ending) (end : ℕ) → ends_at run end ≡ true → run ≡ Ends end
-ends_exactly (Ends to) end h = ap Ends (eqb-true _ _ h)
-ends_exactly Open end h = let z : ◌≡◌ {A = ℕ} 0 1 = cc in absurd (omega arith)
+pub ends_exactly : (run : Option ℕ) (end : ℕ) → ends_at run end ≡ true → run ≡ Some end
+ends_exactly (Some to) end h = ap Some (eqb-true _ _ h)
+ends_exactly None end h = absurd cc
 
 -- data that is exactly what type and count say ends where its bytes do
-data_ends : (p : List ℕ) (section : Section) (entry : ListEntry) (offset : ℕ) (size : ElementSize)
+data_ends : (p : List ℕ) (section : Section) (entry : ListEntry) (offset : ℕ) (size : Option ElementSize)
     → exact_for size entry.count entry.bytes ≡ true → Holds p (store_place section + offset) entry.bytes
     → offset + length entry.bytes ≤ section.hsize
-    → end_for size p section (record_of entry offset) ≡ Ends (store_place section + offset + length entry.bytes)
-data_ends p section entry offset (Bytes n) x h l =
+    → end_for size p section (record_of entry offset) ≡ Some (store_place section + offset + length entry.bytes)
+data_ends p section entry offset (Some (Bytes n)) x h l =
     let e = eqb-true (n * entry.count) (length entry.bytes) x in
     rw (e, le-leb (offset + length entry.bytes) section.hsize l)
-data_ends p section entry offset ToZero x h l =
+data_ends p section entry offset (Some ToZero) x h l =
     let size = length entry.bytes in
     let e : store_place section + offset + 0 ≡ store_place section + offset = omega arith in
     let s = ends_exactly _ _ x in
     rw e at (strings h size 0 entry.count size (section.hsize - offset) (omega arith) (omega arith) s)
-data_ends p section entry offset Unlawful x h l = let z : ◌≡◌ {A = ℕ} 0 1 = cc in absurd (omega arith)
+data_ends p section entry offset None x h l = absurd cc
 
 -- record i of a structure is an entry's, and its data is the entry's
 pub record Reads (p : List ℕ) (section : Section) (i : ℕ) (entry : ListEntry) : Type 0 where
   pub offset : ℕ
   pub read : record_at p section i ≡ record_of entry offset
   pub stands : Holds p (store_place section + offset) entry.bytes
-  pub ended : data_end p section (record_of entry offset) ≡ Ends (store_place section + offset + length entry.bytes)
+  pub ended : data_end p section (record_of entry offset) ≡ Some (store_place section + offset + length entry.bytes)
 
 pub bytes_read : (p : List ℕ) (section : Section) (i : ℕ) (entry : ListEntry) → Reads p section i entry
     → entry_bytes p (entry_at p section i) ≡ entry.bytes
@@ -101,9 +100,10 @@ count_same : (structure : Structure) (entry : ListEntry) (offset : ℕ)
 unfolding count_right
 count_same structure entry offset = refl
 
-entry_pass : (structure : Structure) (s : List ℕ) (section : Section) (i place : ℕ) (e : IndexRecord) (end : Ending)
-    → type_lawful e ≡ true → count_right structure e ≡ true → is_aligned e ≡ true → is_ended end ≡ true → tag_before s section i e.tag ≡ false
-    → entry_check structure s section i place e end ≡ Pass
+entry_pass : (structure : Structure) (s : List ℕ) (section : Section) (i place : ℕ) (e : IndexRecord) (end : Option ℕ)
+    → type_lawful e ≡ true → count_right structure e ≡ true → is_aligned e ≡ true → is_ended end ≡ true
+    → tag_before s section i e.tag ≡ false
+    → entry_check structure s section i place e end ≡ pass
 unfolding entry_check
 entry_pass structure s section i place e end a b c d f =
     sym (passed _ _ a (passed _ _ b (passed _ _ c (passed _ _ d (passed _ _ (ap not f) refl)))))
@@ -112,7 +112,7 @@ entry_pass structure s section i place e end a b c d f =
 -- it passes and reads so, and what is left of the index and the store stands where the next entry's record and data go
 pub record Placed (structure : Structure) (p : List ℕ) (section : Section) (entry : ListEntry) (seen index store : List ℕ)
     (i filled : ℕ) : Type 0 where
-  pub passes : record_check structure p section i ≡ Pass
+  pub passes : record_check structure p section i ≡ pass
   pub reads : Reads p section i entry
   pub indexed : Holds p (record_place section (i + 1)) index
   pub stored : Holds p (store_place section + data_stop filled entry) store
@@ -139,12 +139,12 @@ module _ (structure : Structure) (p : List ℕ) (section : Section) (small : sec
       let g = (offset_right entry.ty filled).0 in
       moved (omega arith) (rest (zeros (offset - filled)) (entry.bytes ++ store) stored)
 
-  ended : data_end p section (record_of entry offset) ≡ Ends (store_place section + offset + length entry.bytes)
+  ended : data_end p section (record_of entry offset) ≡ Some (store_place section + offset + length entry.bytes)
   unfolding data_end data_exact
   ended =
       data_ends p section entry offset (element_size entry.ty) right.exact (front entry.bytes store stands) fits
 
-  passes : record_check structure p section i ≡ Pass
+  passes : record_check structure p section i ≡ pass
   passes =
       ap (λ (e : IndexRecord). entry_check structure p section i (record_place section i) e (data_end p section e)) read
       ∙ entry_pass structure p section i (record_place section i) (record_of entry offset) _ right.typed

@@ -6,17 +6,16 @@ use mathlib.Core.List.{List, [], ◌∷◌}
 use lib.ListN.{length}
 use native.Mathlib.Omega.{arith}
 use borrow.Author.Tests.{eq-eqb}
+use Rattle.std.specs.Prelude.{Some, Ok}
 use Rattle.be.specs.Numbers.{be32_at}
 use Rattle.format.specs.Sizes.{nindex_limit}
 use Rattle.format.specs.declared.section.Section.{Section}
 use Rattle.format.specs.declared.records.IndexRecord.{IndexRecord}
-use Rattle.format.specs.declared.verdict.Verdict.TheVariants.{Pass}
 use Rattle.format.specs.Places.{record_place, in_file}
+use Rattle.format.specs.Verdicts.{pass}
 use Rattle.entries.specs.Entries.{record_at}
-use Rattle.index.specs.declared.Tagged.TheVariants.{Present}
 use Rattle.index.specs.Lookup.{entry_at, tagged_from, tagged_in}
 use Rattle.package.specs.Package.{sound_check, structure_of}
-use Rattle.lookups.specs.declared.Sought.TheVariants.{Here}
 use Rattle.lookups.specs.Lookup.{sought, sought_bytes}
 use Rattle.lookups.proofs.FoundLaws.{found_of_record}
 use Rattle.walk.specs.Theorems.{records_of}
@@ -43,14 +42,14 @@ looked p which section (entry ∷ rest) i h =
     (λ k l. let e : i + suc k ≡ i + 1 + k = omega arith in rw e at (h (suc k) (omega arith))) in
     rw (first, later)
 
-module _ (p : List ℕ) (which : ℕ) (sound : sound_check p ≡ Pass) (entries : List ListEntry)
+module _ (p : List ℕ) (which : ℕ) (sound : sound_check p ≡ pass) (entries : List ListEntry)
     (count : (structure_of p which).nindex ≡ length entries)
     (reads : (k : ℕ) → k < length entries → Reads p (structure_of p which) k (nth entries k)) where
   abbrev section : Section
   section = structure_of p which
 
   found : (k : ℕ) → k < length entries
-      → sought p which (nth entries k).tag (nth entries k).ty ≡ Here (entry_at p section k)
+      → sought p which (nth entries k).tag (nth entries k).ty ≡ Ok (entry_at p section k)
   found k l =
       let r = (reads k l).read in
       found_of_record p which (nth entries k).tag (nth entries k).ty sound k
@@ -76,7 +75,7 @@ module _ (p : List ℕ) (which : ℕ) (sound : sound_check p ≡ Pass) (entries 
 
 -- a first record that has the tag
 tagged_first : (s : List ℕ) (section : Section) (n tag : ℕ) → section.nindex ≡ suc n
-    → be32_at s (record_place section 0) ≡ tag → tagged_in s section tag ≡ Present (record_at s section 0)
+    → be32_at s (record_place section 0) ≡ tag → tagged_in s section tag ≡ Some (record_at s section 0)
 unfolding tagged_from
 tagged_first s section n tag c h = rw (c, eq-eqb (be32_at s (record_place section 0)) tag h)
 

@@ -9,10 +9,9 @@ use borrow.Author.Tests.{le-leb}
 use Rattle.format.specs.Sizes.{nindex_limit}
 use Rattle.format.specs.declared.section.Section.{Section}
 use Rattle.format.specs.declared.section.Structure.{Structure}
-use Rattle.format.specs.declared.verdict.Verdict.TheVariants.{Pass}
 use Rattle.format.specs.Places.{record_place, store_place, section_end}
 use Rattle.format.specs.Records.{header_record_at}
-use Rattle.format.specs.Verdicts.{run_from}
+use Rattle.format.specs.Verdicts.{run_from, pass}
 use Rattle.format.proofs.VerdictLaws.{passed, both_pass}
 use Rattle.format.proofs.RunLaws as run
 use Rattle.repeats.specs.Repeats.{tag_before}
@@ -53,12 +52,12 @@ reads_step p section i entry rest h f (suc k) l = let e : i + suc k ≡ i + 1 + 
 -- the entries whose records stand from place i of the index on, and their data behind what fills the store up to a place
 module _ (structure : Structure) (p : List ℕ) (section : Section) (small : section.hsize < 4294967296) where
   records : (entries : List ListEntry) (seen : List ℕ) (i filled : ℕ)
-      → entries_reasons structure seen entries ≡ Pass → Wide entries
+      → entries_reasons structure seen entries ≡ pass → Wide entries
       → Holds p (record_place section i) (index_from filled entries)
       → Holds p (store_place section + filled) (store_from filled entries)
       → filled + length (store_from filled entries) ≡ section.hsize
       → ((tag : ℕ) → tag_before p section i tag ≡ tag_in tag seen)
-      → (run_from (record_check structure p section) (length entries) i ≡ Pass) × ReadsFrom p section i entries
+      → (run_from (record_check structure p section) (length entries) i ≡ pass) × ReadsFrom p section i entries
   records [] seen i filled h w hi hs r t = (run.none _ i, λ k l. absurd (omega arith))
   records (entry ∷ rest) seen i filled h w hi hs r t =
       let k = (entries_right structure seen entry rest).0 h in
@@ -79,7 +78,7 @@ module _ (structure : Structure) (p : List ℕ) (section : Section) (small : sec
 
 header_pass : (len start nindex hsize : ℕ) → 1 ≤ nindex → nindex ≤ nindex_limit
     → start + 16 + 16 * nindex + hsize ≤ len
-    → header_check len start (record { magic = 0x8EADE801; reserved = 0; nindex = nindex; hsize = hsize }) ≡ Pass
+    → header_check len start (record { magic = 0x8EADE801; reserved = 0; nindex = nindex; hsize = hsize }) ≡ pass
 unfolding header_check
 header_pass len start nindex hsize a b c =
     sym (passed _ _ (le-leb _ _ (let l : start + 16 ≤ len = omega arith in l))
@@ -96,7 +95,7 @@ no_tags p section tag = refl
 
 -- a structure as it is read: it passes checks 5 to 13, its records are the entries', and it ends where its bytes do
 pub record StructureRead (structure : Structure) (p : List ℕ) (start : ℕ) (entries : List ListEntry) : Type 0 where
-  pub passes : structure_check structure p (length p) start ≡ Pass
+  pub passes : structure_check structure p (length p) start ≡ pass
   pub count : (section_at p start).nindex ≡ length entries
   pub reads : (k : ℕ) → k < length entries → Reads p (section_at p start) k (nth entries k)
   pub end : section_end (section_at p start) ≡ start + length (structure_bytes entries)
@@ -135,13 +134,13 @@ module _ (structure : Structure) (p : List ℕ) (start : ℕ) (entries : List Li
       let e = index_length 0 entries in
       moved (omega arith) (rest (index_from 0 entries) (store_from 0 entries) behind_head)
 
-  both_read : (run_from (record_check structure p section) (length entries) 0 ≡ Pass) × ReadsFrom p section 0 entries
+  both_read : (run_from (record_check structure p section) (length entries) 0 ≡ pass) × ReadsFrom p section 0 entries
   both_read =
       records structure p section small entries [] 0 0 right.each wide
       (moved (omega arith) (front (index_from 0 entries) (store_from 0 entries) behind_head)) store (omega arith)
       (no_tags p section)
 
-  passes : structure_check structure p (length p) start ≡ Pass
+  passes : structure_check structure p (length p) start ≡ pass
   unfolding structure_check
   passes =
       let w = within store in

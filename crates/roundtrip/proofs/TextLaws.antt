@@ -10,7 +10,7 @@ use lib.Seq.{get_or-drop, drop-drop}
 use lib.Dec.{eqb}
 use native.Mathlib.Omega.{arith}
 use borrow.Author.Tests.{eqb-true, eqb-false, eq-eqb, ne_eqb}
-use Rattle.strings.specs.declared.Ending.TheVariants.{Ends}
+use Rattle.std.specs.Prelude.{Some}
 use Rattle.strings.specs.Strings.{strings_from, in_row}
 use Rattle.roundtrip.specs.Lawful.{Strings}
 use Rattle.roundtrip.proofs.HoldsLaws.{next_byte}
@@ -31,7 +31,7 @@ module _ (s : List ℕ) where
   -- texts in a row from a place on: the scan ends behind them
   abbrev RowEnds : List ℕ → ℕ → Type 0
   RowEnds row count =
-      (room at : ℕ) → drop at s ≡ row → length row ≤ room → strings_from s room at count ≡ Ends (at + length row)
+      (room at : ℕ) → drop at s ≡ row → length row ≤ room → strings_from s room at count ≡ Some (at + length row)
 
   text_ends : (text rest : List ℕ) (count : ℕ) → ((i : ℕ) → i < length text → get_or text i 0 ≢ 0) → RowEnds rest count
       → RowEnds (text ++ 0 ∷ rest) (suc count)
@@ -51,7 +51,7 @@ module _ (s : List ℕ) where
       rw (ne_eqb (get_or s at 0) 0 (λ q. n 0 (omega arith) (sym b.0 ∙ q)), ← e)
       (text_ends text rest count (λ i l. n (suc i) (omega arith)) f room (at + 1) b.1 (omega arith))
 
-  none_end : (room at : ℕ) → strings_from s room at 0 ≡ Ends (at + 0)
+  none_end : (room at : ℕ) → strings_from s room at 0 ≡ Some (at + 0)
   unfolding strings_from
   none_end room at = let e : at + 0 ≡ at = omega arith in rw e
 
@@ -99,7 +99,7 @@ module _ (s : List ℕ) where
           whole zero (suc i) l m = w 0 i (omega arith) (omega arith)
           whole (suc k) i l m = w (suc k) i (omega arith) m
 
-  scanned : (room at count : ℕ) → at + room ≡ length s → strings_from s room at count ≡ Ends (at + room)
+  scanned : (room at count : ℕ) → at + room ≡ length s → strings_from s room at count ≡ Some (at + room)
       → Strings (drop at s) count
   unfolding strings_from in_row
   scanned room at zero l h =
@@ -110,22 +110,22 @@ module _ (s : List ℕ) where
         row = drop_of_length-le s {i = at} (omega arith);
         whole = λ k i l. absurd (omega arith);
       }
-  scanned zero at (suc count) l h = let z : ◌≡◌ {A = ℕ} 0 1 = cc in absurd (omega arith)
+  scanned zero at (suc count) l h = absurd cc
   scanned (suc room) at (suc count) l h =
       let e : at + suc room ≡ at + 1 + room = omega arith in
       go (eqb (get_or s at 0) 0) refl (rw e at h) (scanned room (at + 1) count (omega arith))
       (scanned room (at + 1) (suc count) (omega arith))
     where
       go : (b : Bool) → eqb (get_or s at 0) 0 ≡ b
-          → cond b (strings_from s room (at + 1) count) (strings_from s room (at + 1) (suc count)) ≡ Ends (at + 1 + room)
-          → (strings_from s room (at + 1) count ≡ Ends (at + 1 + room) → Strings (drop (at + 1) s) count)
-          → (strings_from s room (at + 1) (suc count) ≡ Ends (at + 1 + room) → Strings (drop (at + 1) s) (suc count))
+          → cond b (strings_from s room (at + 1) count) (strings_from s room (at + 1) (suc count)) ≡ Some (at + 1 + room)
+          → (strings_from s room (at + 1) count ≡ Some (at + 1 + room) → Strings (drop (at + 1) s) count)
+          → (strings_from s room (at + 1) (suc count) ≡ Some (at + 1 + room) → Strings (drop (at + 1) s) (suc count))
           → Strings (drop at s) (suc count)
       go true t h f g = with_zero at count (omega arith) (eqb-true _ _ t) (f h)
       go false t h f g = with_byte at count (omega arith) (eqb-false _ _ t) (g h)
 
 pub strings_exact : (bytes : List ℕ) (count : ℕ)
-    → (strings_from bytes (length bytes) 0 count ≡ Ends (length bytes)) ↔ Strings bytes count
+    → (strings_from bytes (length bytes) 0 count ≡ Some (length bytes)) ↔ Strings bytes count
 strings_exact bytes count = (
   λ h. let e : 0 + length bytes ≡ length bytes = omega arith in scanned bytes (length bytes) 0 count e (rw e h),
   λ r.

@@ -4,8 +4,8 @@ use mathlib.Core.Path.{◌≡◌, sym, ap, ◌∙◌}
 use mathlib.Core.List.{List}
 use lib.ListN.{length, take, drop}
 use native.Mathlib.Omega.{arith}
-use Rattle.format.specs.declared.verdict.Answer.{Answer}
-use Rattle.format.specs.declared.verdict.Answer.TheVariants.{Done}
+use Rattle.std.specs.Prelude.{Ok}
+use Rattle.format.specs.Verdicts.{Answer}
 use Rattle.lists.specs.Lists.{ListEntry, list_of, row_of, entries_of}
 use Rattle.plan.specs.Refusals.{written_of}
 use Rattle.writer.specs.Writing.{Wrote}
@@ -19,7 +19,7 @@ use Rattle.roundtrip.proofs.LentLaws.{wide_of, lent_written, lent_accepted}
 -- a writing that is accepted
 module _ (name signature signatureRow header headerRow before after : List ℕ) (answer : Answer) (n : ℕ)
     (os : Octets signature) (oh : Octets header)
-    (w : Wrote name signature signatureRow header headerRow before answer after) (h : answer ≡ Done n) where
+    (w : Wrote name signature signatureRow header headerRow before answer after) (h : answer ≡ Ok n) where
   abbrev signed : List ListEntry
   signed = entries_of signature signatureRow
 
@@ -61,7 +61,7 @@ module _ (name signature signatureRow header headerRow before after : List ℕ) 
 
   again : (before' after' : List ℕ) (answer' : Answer) → n ≤ length before'
       → Wrote name (list_of signed) (row_of signed) (list_of headed) (row_of headed) before' answer' after'
-      → (answer' ≡ Done n) × (take n after' ≡ take n after) × (drop n after' ≡ drop n before')
+      → (answer' ≡ Ok n) × (take n after' ≡ take n after) × (drop n after' ≡ drop n before')
   again before' after' answer' l w' =
       let e = lent_written name signed headed writable in
       let k = size in

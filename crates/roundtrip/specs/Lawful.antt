@@ -1,5 +1,5 @@
 -- Requests 1 and 3: what may be written, as rules with no order.
-use Rattle.std.specs.Prelude.{ℕ, ◌+◌, ◌*◌, ◌≤◌, ◌<◌, ◌≡◌, ◌≢◌, List, [], length, get_or}
+use Rattle.std.specs.Prelude.{ℕ, ◌+◌, ◌*◌, ◌≤◌, ◌<◌, ◌≡◌, ◌≢◌, List, [], length, get_or, Some}
 use Rattle.strings.specs.Strings.{in_row}
 use Rattle.format.specs.declared.section.Structure.{Structure}
 use Rattle.format.specs.declared.section.Structure.TheVariants.{Signature, Header}
@@ -29,8 +29,8 @@ pub record LawfulEntry (structure : Structure) (entry : ListEntry) : Type 0 wher
   pub single : entry.ty ≡ 6 → entry.count ≡ 1
   pub translated : structure ≡ Signature → entry.ty ≡ 9 → entry.count ≡ 1
   -- size × count bytes, or count strings
-  pub fixed : (n : ℕ) → element_size entry.ty ≡ Bytes n → length entry.bytes ≡ n * entry.count
-  pub strings : element_size entry.ty ≡ ToZero → Strings entry.bytes entry.count
+  pub fixed : (n : ℕ) → element_size entry.ty ≡ Some (Bytes n) → length entry.bytes ≡ n * entry.count
+  pub strings : element_size entry.ty ≡ Some ToZero → Strings entry.bytes entry.count
 
 -- each entry lawful, no tag twice
 pub record LawfulEntries (structure : Structure) (entries : List ListEntry) : Type 0 where

@@ -1,11 +1,8 @@
 -- Requests 1 and 3: what is written is read back, entry for entry, and written again, byte for byte. Stated over what the public
 -- calls promise: the writing (Wrote), walks and look-ups. Each is proved in proofs/ under its name in small letters.
-use Rattle.std.specs.Prelude.{ℕ, ◌-◌, ◌≤◌, ◌<◌, ◌≡◌, ◌↔◌, ◌≢◌, List, length, take, drop, get_or}
+use Rattle.std.specs.Prelude.{ℕ, ◌-◌, ◌≤◌, ◌<◌, ◌≡◌, ◌↔◌, ◌≢◌, List, length, take, drop, get_or, Ok}
 use Rattle.strings.specs.Strings.{next_zero}
-use Rattle.format.specs.declared.verdict.Verdict.TheVariants.{Pass}
-use Rattle.format.specs.declared.verdict.Answer.{Answer}
-use Rattle.format.specs.declared.verdict.Answer.TheVariants.{Done}
-use Rattle.format.specs.Verdicts.{number_of}
+use Rattle.format.specs.Verdicts.{number_of, Answer, pass}
 use Rattle.format.specs.Places.{section_end}
 use Rattle.index.specs.Lookup.{tagged_in}
 use Rattle.package.specs.Package.{sound_check, signature_at, header_at, header_start}
@@ -38,7 +35,7 @@ with_own_of p signature =
 -- reading back gives exactly those entries plus 1000 and 1004
 pub record ReadsBack (p name : List ℕ) (signature header : List ListEntry) : Type 0 where
   -- p passes checks 2 to 13 and 28
-  pub sound : sound_check p ≡ Pass
+  pub sound : sound_check p ≡ pass
   -- the bytes between the signature's end and H are zero
   pub gap : (i : ℕ) → section_end (signature_at p) ≤ i → i < header_start (signature_at p) → get_or p i 0 ≡ 0
   -- the signature shows 1000 and 1004 and then the caller's entries, in order; the header the caller's
@@ -47,9 +44,9 @@ pub record ReadsBack (p name : List ℕ) (signature header : List ListEntry) : T
   pub signed_found : Finds p 0 (with_own_of p signature)
   pub headed_found : (which : ℕ) → which ≢ 0 → Finds p which header
   -- check 16 holds
-  pub sized : size_tag_check p (length p) (signature_at p) (header_at p) (tagged_in p (signature_at p)) ≡ Pass
+  pub sized : size_tag_check p (length p) (signature_at p) (header_at p) (tagged_in p (signature_at p)) ≡ pass
   -- check 27 holds
-  pub digested : digest_check p (signature_at p) (header_at p) ≡ Pass
+  pub digested : digest_check p (signature_at p) (header_at p) ≡ pass
   -- the lead's name up to its first zero
   pub named : take (next_zero p 66 10 - 10) (drop 10 p) ≡ name
   -- the payload is empty
@@ -65,7 +62,7 @@ abbrev pub ReadBack : Type 0
 ReadBack =
     (name signature signatureRow header headerRow before after : List ℕ) (answer : Answer) (n : ℕ)
     → Octets signature → Octets header
-    → Wrote name signature signatureRow header headerRow before answer after → answer ≡ Done n
+    → Wrote name signature signatureRow header headerRow before answer after → answer ≡ Ok n
     → Made name signature signatureRow header headerRow before after n
 
 -- Writing, with the same name, what was read from p, without that 1000 and 1004, into any buffer that has room gives the bytes
@@ -74,11 +71,11 @@ abbrev pub WriteAgain : Type 0
 WriteAgain =
     (name signature signatureRow header headerRow before after : List ℕ) (answer : Answer) (n : ℕ)
     → Octets signature → Octets header
-    → Wrote name signature signatureRow header headerRow before answer after → answer ≡ Done n
+    → Wrote name signature signatureRow header headerRow before answer after → answer ≡ Ok n
     → (before' after' : List ℕ) (answer' : Answer) → n ≤ length before'
     → Wrote name (list_of (behind_own (shown (take n after) 0))) (row_of (behind_own (shown (take n after) 0)))
     (list_of (shown (take n after) 1)) (row_of (shown (take n after) 1)) before' answer' after'
-    → (answer' ≡ Done n) × (take n after' ≡ take n after) × (drop n after' ≡ drop n before')
+    → (answer' ≡ Ok n) × (take n after' ≡ take n after) × (drop n after' ≡ drop n before')
 
 -- Accepted exactly when the name and the lists are lawful and the package is within limit and room.
 abbrev pub AcceptedExactly : Type 0

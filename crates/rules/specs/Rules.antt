@@ -2,9 +2,7 @@
 -- the header's index how many strings are translated.
 use Rattle.std.specs.Prelude.{ℕ, ◌-◌, List, eqb}
 use Rattle.format.specs.declared.section.Section.{Section}
-use Rattle.format.specs.declared.verdict.Verdict.{Verdict}
-use Rattle.format.specs.declared.verdict.Verdict.TheVariants.{Pass}
-use Rattle.format.specs.Verdicts.{check, both}
+use Rattle.format.specs.Verdicts.{check, both, Verdict, pass}
 use Rattle.index.specs.Lookup.{tagged_in}
 use Rattle.catalogue.specs.declared.Line.{Line}
 use Rattle.tags.specs.Tags.{Look, number_in}
@@ -15,7 +13,7 @@ use Rattle.texts.specs.Texts.{texts_check}
 -- 16 | the signature's 1000 isn't length − H | 1000
 unfoldable pub size_tag_check : List ℕ → ℕ → Section → Section → Look → Verdict
 size_tag_check s len signature header look =
-    check (eqb (number_in s signature look 1000) (len - header.start.0)) 16 1000 Pass
+    check (eqb (number_in s signature look 1000) (len - header.start.0)) 16 1000 pass
 
 -- 14 to 18 with the lines of signature and header, by what the two show
 unfoldable pub rules_over : List Line → List Line → List ℕ → ℕ → Section → Section → Look → Look → Verdict

@@ -1,14 +1,13 @@
 -- Document 01, "Bench samples", P books, and books with lots (request 7): a book at an edition, the verdict of checks 19 to 22,
 -- and the doses of one that passed, oxide, milligrams, lot.
-use Rattle.std.specs.Prelude.{ℕ, List, [], ◌∷◌, ◌++◌, Bool, ◌&&◌}
+use Rattle.std.specs.Prelude.{ℕ, List, [], ◌∷◌, ◌++◌, Bool, ◌&&◌, Ok, Err}
 use Rattle.be.specs.Bytes.{same_bytes}
-use Rattle.format.specs.declared.verdict.Verdict.{Verdict}
-use Rattle.format.specs.declared.verdict.Verdict.TheVariants.{Pass, Fail}
 use Rattle.book.specs.Kinds.{is_known}
 use Rattle.book.specs.Book.{book_check}
 use Rattle.book.specs.Doses.{doses}
 use Rattle.buffer.specs.Buffer.{numbers_of}
 use Rattle.samples.specs.Stores.{is_verdict}
+use Rattle.format.specs.Verdicts.{Verdict, pass, refusal}
 
 pub record BookSample : Type 0 where
   pub edition : ℕ
@@ -51,39 +50,39 @@ lot_before = highest_lot ++ toleranced ++ heaviest
 
 abbrev pub books : List BookSample
 books =
-    record { edition = 2; bytes = heaviest; verdict = Pass; doses = 27 ∷ 5000000 ∷ 0 ∷ [] }
-    ∷ record { edition = 2; bytes = too_heavy; verdict = Fail 22 0; doses = [] }
-    ∷ record { edition = 1; bytes = toleranced; verdict = Fail 20 0; doses = [] }
-    ∷ record { edition = 2; bytes = toleranced; verdict = Pass; doses = 27 ∷ 1250 ∷ 0 ∷ [] }
-    ∷ record { edition = 1; bytes = cut_short; verdict = Fail 21 0; doses = [] }
-    ∷ record { edition = 2; bytes = cut_short; verdict = Fail 21 0; doses = [] }
-    ∷ record { edition = 2; bytes = 0x96 ∷ []; verdict = Fail 20 0; doses = [] }
-    ∷ record { edition = 2; bytes = 0x7F ∷ []; verdict = Fail 21 0; doses = [] }
-    ∷ record { edition = 2; bytes = 0x80 ∷ []; verdict = Fail 20 0; doses = [] }
-    ∷ record { edition = 2; bytes = 0x00 ∷ []; verdict = Pass; doses = [] }
-    ∷ record { edition = 3; bytes = heaviest; verdict = Pass; doses = 27 ∷ 5000000 ∷ 0 ∷ [] }
-    ∷ record { edition = 3; bytes = toleranced; verdict = Pass; doses = 27 ∷ 1250 ∷ 0 ∷ [] }
-    ∷ record { edition = 3; bytes = no_lot; verdict = Pass; doses = 27 ∷ 1250 ∷ 0 ∷ [] }
-    ∷ record { edition = 3; bytes = highest_lot; verdict = Pass; doses = 27 ∷ 1250 ∷ 4294967295 ∷ [] }
-    ∷ record { edition = 1; bytes = lot_behind; verdict = Fail 20 7; doses = [] }
-    ∷ record { edition = 2; bytes = lot_behind; verdict = Fail 20 7; doses = [] }
-    ∷ record { edition = 3; bytes = lot_behind; verdict = Pass; doses = 27 ∷ 5000000 ∷ 0 ∷ 27 ∷ 1250 ∷ 4294967295 ∷ [] }
-    ∷ record { edition = 1; bytes = lot_behind98; verdict = Fail 20 0; doses = [] }
-    ∷ record { edition = 2; bytes = lot_behind98; verdict = Fail 20 9; doses = [] }
-    ∷ record { edition = 3; bytes = lot_behind98; verdict = Pass; doses = 27 ∷ 1250 ∷ 0 ∷ 27 ∷ 1250 ∷ 4294967295 ∷ [] }
+    record { edition = 2; bytes = heaviest; verdict = pass; doses = 27 ∷ 5000000 ∷ 0 ∷ [] }
+    ∷ record { edition = 2; bytes = too_heavy; verdict = Err (refusal 22 0); doses = [] }
+    ∷ record { edition = 1; bytes = toleranced; verdict = Err (refusal 20 0); doses = [] }
+    ∷ record { edition = 2; bytes = toleranced; verdict = pass; doses = 27 ∷ 1250 ∷ 0 ∷ [] }
+    ∷ record { edition = 1; bytes = cut_short; verdict = Err (refusal 21 0); doses = [] }
+    ∷ record { edition = 2; bytes = cut_short; verdict = Err (refusal 21 0); doses = [] }
+    ∷ record { edition = 2; bytes = 0x96 ∷ []; verdict = Err (refusal 20 0); doses = [] }
+    ∷ record { edition = 2; bytes = 0x7F ∷ []; verdict = Err (refusal 21 0); doses = [] }
+    ∷ record { edition = 2; bytes = 0x80 ∷ []; verdict = Err (refusal 20 0); doses = [] }
+    ∷ record { edition = 2; bytes = 0x00 ∷ []; verdict = pass; doses = [] }
+    ∷ record { edition = 3; bytes = heaviest; verdict = pass; doses = 27 ∷ 5000000 ∷ 0 ∷ [] }
+    ∷ record { edition = 3; bytes = toleranced; verdict = pass; doses = 27 ∷ 1250 ∷ 0 ∷ [] }
+    ∷ record { edition = 3; bytes = no_lot; verdict = pass; doses = 27 ∷ 1250 ∷ 0 ∷ [] }
+    ∷ record { edition = 3; bytes = highest_lot; verdict = pass; doses = 27 ∷ 1250 ∷ 4294967295 ∷ [] }
+    ∷ record { edition = 1; bytes = lot_behind; verdict = Err (refusal 20 7); doses = [] }
+    ∷ record { edition = 2; bytes = lot_behind; verdict = Err (refusal 20 7); doses = [] }
+    ∷ record { edition = 3; bytes = lot_behind; verdict = pass; doses = 27 ∷ 5000000 ∷ 0 ∷ 27 ∷ 1250 ∷ 4294967295 ∷ [] }
+    ∷ record { edition = 1; bytes = lot_behind98; verdict = Err (refusal 20 0); doses = [] }
+    ∷ record { edition = 2; bytes = lot_behind98; verdict = Err (refusal 20 9); doses = [] }
+    ∷ record { edition = 3; bytes = lot_behind98; verdict = pass; doses = 27 ∷ 1250 ∷ 0 ∷ 27 ∷ 1250 ∷ 4294967295 ∷ [] }
     ∷ record {
       edition = 3;
       bytes = lot_before;
-      verdict = Pass;
+      verdict = pass;
       doses = 27 ∷ 1250 ∷ 4294967295 ∷ 27 ∷ 1250 ∷ 0 ∷ 27 ∷ 5000000 ∷ 0 ∷ [];
     }
-    ∷ record { edition = 3; bytes = lot_cut; verdict = Fail 21 0; doses = [] }
+    ∷ record { edition = 3; bytes = lot_cut; verdict = Err (refusal 21 0); doses = [] }
     ∷ []
 
 -- a refused book gives no doses
 abbrev pub given : Verdict → List ℕ → List ℕ
-given Pass numbers = numbers
-given (Fail number place) numbers = []
+given (Ok _) numbers = numbers
+given (Err e) numbers = []
 
 abbrev pub book_right : BookSample → Bool
 book_right sample =

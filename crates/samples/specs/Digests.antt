@@ -1,12 +1,11 @@
 -- Request 3, check 27: the smallest package that is written, and what becomes of it when one bit is turned.
-use Rattle.std.specs.Prelude.{ℕ, List, [], ◌∷◌, ◌++◌, Bool, get_or, set}
+use Rattle.std.specs.Prelude.{ℕ, List, [], ◌∷◌, ◌++◌, Bool, get_or, set, Err}
 use Rattle.std.specs.Int.Bits.{bit_xor}
-use Rattle.format.specs.declared.verdict.Verdict.{Verdict}
-use Rattle.format.specs.declared.verdict.Verdict.TheVariants.{Pass, Fail}
 use Rattle.package.specs.Package.{signature_at, header_at}
 use Rattle.verify.specs.Digests.{digest_check}
 use Rattle.samples.specs.Stores.{is_verdict}
 use Rattle.samples.specs.Written.{smallest}
+use Rattle.format.specs.Verdicts.{Verdict, pass, refusal}
 
 pub record DigestSample : Type 0 where
   pub bytes : List ℕ
@@ -20,14 +19,14 @@ turned place = set smallest place (bit_xor (get_or smallest place 0) 1)
 -- before H do not
 abbrev pub digests : List DigestSample
 digests =
-    record { bytes = smallest; verdict = Pass }
-    ∷ record { bytes = turned 168; verdict = Fail 27 1004 }
-    ∷ record { bytes = turned 200; verdict = Fail 27 1004 }
-    ∷ record { bytes = turned 148; verdict = Fail 27 1004 }
-    ∷ record { bytes = turned 163; verdict = Fail 27 1004 }
-    ∷ record { bytes = smallest ++ 0 ∷ []; verdict = Fail 27 1004 }
-    ∷ record { bytes = turned 10; verdict = Pass }
-    ∷ record { bytes = turned 167; verdict = Pass }
+    record { bytes = smallest; verdict = pass }
+    ∷ record { bytes = turned 168; verdict = Err (refusal 27 1004) }
+    ∷ record { bytes = turned 200; verdict = Err (refusal 27 1004) }
+    ∷ record { bytes = turned 148; verdict = Err (refusal 27 1004) }
+    ∷ record { bytes = turned 163; verdict = Err (refusal 27 1004) }
+    ∷ record { bytes = smallest ++ 0 ∷ []; verdict = Err (refusal 27 1004) }
+    ∷ record { bytes = turned 10; verdict = pass }
+    ∷ record { bytes = turned 167; verdict = pass }
     ∷ []
 
 abbrev pub digest_right : DigestSample → Bool

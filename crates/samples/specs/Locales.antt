@@ -1,10 +1,9 @@
 -- Request 2, the last group of check 17: a header's index, how many strings tag 100 has, and the verdict.
-use Rattle.std.specs.Prelude.{ℕ, List, [], ◌∷◌, ◌++◌, Bool, length, replicate}
+use Rattle.std.specs.Prelude.{ℕ, List, [], ◌∷◌, ◌++◌, Bool, length, replicate, Err}
 use Rattle.format.specs.declared.section.Section.{Section}
-use Rattle.format.specs.declared.verdict.Verdict.{Verdict}
-use Rattle.format.specs.declared.verdict.Verdict.TheVariants.{Pass, Fail}
 use Rattle.locales.specs.Locales.{locales_check}
 use Rattle.samples.specs.Stores.{number, is_verdict}
+use Rattle.format.specs.Verdicts.{Verdict, pass, refusal}
 
 -- what the group asks of an index record
 pub record Strings : Type 0 where
@@ -34,12 +33,12 @@ array = record { tag = 6; ty = 8; count = 3 }
 -- index order, whichever is lower
 abbrev pub locales : List LocaleSample
 locales =
-    record { index = two ∷ []; most = 2; verdict = Pass }
-    ∷ record { index = three ∷ []; most = 2; verdict = Fail 17 7 }
-    ∷ record { index = array ∷ two ∷ []; most = 2; verdict = Pass }
-    ∷ record { index = array ∷ three ∷ lower ∷ []; most = 2; verdict = Fail 17 7 }
-    ∷ record { index = lower ∷ three ∷ []; most = 2; verdict = Fail 17 5 }
-    ∷ record { index = lower ∷ three ∷ []; most = 3; verdict = Pass }
+    record { index = two ∷ []; most = 2; verdict = pass }
+    ∷ record { index = three ∷ []; most = 2; verdict = Err (refusal 17 7) }
+    ∷ record { index = array ∷ two ∷ []; most = 2; verdict = pass }
+    ∷ record { index = array ∷ three ∷ lower ∷ []; most = 2; verdict = Err (refusal 17 7) }
+    ∷ record { index = lower ∷ three ∷ []; most = 2; verdict = Err (refusal 17 5) }
+    ∷ record { index = lower ∷ three ∷ []; most = 3; verdict = pass }
     ∷ []
 
 abbrev pub index_bytes : List Strings → List ℕ

@@ -1,9 +1,8 @@
 -- Document 01, "Bench samples", P store of 8: one index record over a store of 8 bytes, and the verdict of checks 5 to 13.
-use Rattle.std.specs.Prelude.{ℕ, List, [], ◌∷◌, ◌++◌, Bool, true, false, ◌&&◌, length, eqb}
+use Rattle.std.specs.Prelude.{ℕ, List, [], ◌∷◌, ◌++◌, Bool, true, false, ◌&&◌, length, eqb, Ok, Err}
 use Rattle.format.specs.declared.section.Structure.TheVariants.{Signature, Header}
-use Rattle.format.specs.declared.verdict.Verdict.{Verdict}
-use Rattle.format.specs.declared.verdict.Verdict.TheVariants.{Pass, Fail}
 use Rattle.structure.specs.Structure.{structure_check}
+use Rattle.format.specs.Verdicts.{Verdict, pass, refusal}
 
 -- a small number in four bytes
 abbrev pub number : ℕ → List ℕ
@@ -39,24 +38,24 @@ two_strings = 1 ∷ 2 ∷ 3 ∷ 0 ∷ 5 ∷ 6 ∷ 7 ∷ 0 ∷ []
 -- Request 2: two translated strings are right in the header, and 10 in the signature; three of them are not in the store
 abbrev pub samples : List Sample
 samples =
-    record { ty = 4; offset = 4; count = 1; store = ended; signature = Pass; header = Pass }
-    ∷ record { ty = 4; offset = 4; count = 2; store = ended; signature = Fail 12 16; header = Fail 12 16 }
-    ∷ record { ty = 4; offset = 2; count = 1; store = ended; signature = Fail 11 16; header = Fail 11 16 }
-    ∷ record { ty = 6; offset = 7; count = 1; store = ended; signature = Pass; header = Pass }
-    ∷ record { ty = 6; offset = 7; count = 1; store = not_ended; signature = Fail 12 16; header = Fail 12 16 }
-    ∷ record { ty = 7; offset = 8; count = 1; store = ended; signature = Fail 12 16; header = Fail 12 16 }
-    ∷ record { ty = 9; offset = 0; count = 1; store = two_strings; signature = Pass; header = Pass }
-    ∷ record { ty = 9; offset = 0; count = 2; store = two_strings; signature = Fail 10 16; header = Pass }
-    ∷ record { ty = 9; offset = 0; count = 3; store = two_strings; signature = Fail 10 16; header = Fail 12 16 }
-    ∷ record { ty = 9; offset = 0; count = 0; store = two_strings; signature = Fail 10 16; header = Fail 10 16 }
-    ∷ record { ty = 6; offset = 0; count = 2; store = two_strings; signature = Fail 10 16; header = Fail 10 16 }
+    record { ty = 4; offset = 4; count = 1; store = ended; signature = pass; header = pass }
+    ∷ record { ty = 4; offset = 4; count = 2; store = ended; signature = Err (refusal 12 16); header = Err (refusal 12 16) }
+    ∷ record { ty = 4; offset = 2; count = 1; store = ended; signature = Err (refusal 11 16); header = Err (refusal 11 16) }
+    ∷ record { ty = 6; offset = 7; count = 1; store = ended; signature = pass; header = pass }
+    ∷ record { ty = 6; offset = 7; count = 1; store = not_ended; signature = Err (refusal 12 16); header = Err (refusal 12 16) }
+    ∷ record { ty = 7; offset = 8; count = 1; store = ended; signature = Err (refusal 12 16); header = Err (refusal 12 16) }
+    ∷ record { ty = 9; offset = 0; count = 1; store = two_strings; signature = pass; header = pass }
+    ∷ record { ty = 9; offset = 0; count = 2; store = two_strings; signature = Err (refusal 10 16); header = pass }
+    ∷ record { ty = 9; offset = 0; count = 3; store = two_strings; signature = Err (refusal 10 16); header = Err (refusal 12 16) }
+    ∷ record { ty = 9; offset = 0; count = 0; store = two_strings; signature = Err (refusal 10 16); header = Err (refusal 10 16) }
+    ∷ record { ty = 6; offset = 0; count = 2; store = two_strings; signature = Err (refusal 10 16); header = Err (refusal 10 16) }
     ∷ []
 
 abbrev pub is_verdict : Verdict → Verdict → Bool
-is_verdict Pass Pass = true
-is_verdict Pass (Fail number place) = false
-is_verdict (Fail number place) Pass = false
-is_verdict (Fail number place) (Fail number' place') = eqb number number' && eqb place place'
+is_verdict (Ok _) (Ok _) = true
+is_verdict (Ok _) (Err e) = false
+is_verdict (Err e) (Ok _) = false
+is_verdict (Err e) (Err e2) = eqb e.number e2.number && eqb e.place e2.place
 
 abbrev pub is_right : Sample → Bool
 is_right sample =

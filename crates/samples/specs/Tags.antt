@@ -1,13 +1,12 @@
 -- Check 13: an index of these tags, and the first record whose tag an earlier one has; the number of records where there is none.
-use Rattle.std.specs.Prelude.{ℕ, ◌+◌, ◌*◌, List, [], ◌∷◌, ◌++◌, Bool, cond, ◌&&◌, length, eqb}
+use Rattle.std.specs.Prelude.{ℕ, ◌+◌, ◌*◌, List, [], ◌∷◌, ◌++◌, Bool, cond, ◌&&◌, length, eqb, Err}
 use Rattle.format.specs.declared.section.Structure.TheVariants.{Signature, Header}
-use Rattle.format.specs.declared.verdict.Verdict.{Verdict}
-use Rattle.format.specs.declared.verdict.Verdict.TheVariants.{Pass, Fail}
 use Rattle.put.specs.Puts.{bytes_of}
 use Rattle.among.specs.Among.{first_from}
 use Rattle.repeats.specs.Repeats.{repeated_in, repeated_among}
 use Rattle.structure.specs.Structure.{structure_check, section_at}
 use Rattle.samples.specs.Stores.{number, is_verdict}
+use Rattle.format.specs.Verdicts.{Verdict, pass, refusal}
 
 pub record TagsSample : Type 0 where
   pub tags : List ℕ
@@ -45,7 +44,7 @@ structure_of tags =
 
 abbrev pub verdict_of : TagsSample → Verdict
 verdict_of sample =
-    cond (eqb sample.first (length sample.tags)) Pass (Fail 13 (16 + 16 * sample.first))
+    cond (eqb sample.first (length sample.tags)) pass (Err (refusal 13 (16 + 16 * sample.first)))
 
 -- the record in a row of records and in an index, and the verdict of 5 to 13 in both structures
 abbrev pub tags_right : TagsSample → Bool

@@ -9,11 +9,141 @@ use format::Answer;
 use std::rt::Files;
 use std::{fs, io};
 
+// What is looked up: the package's name, the tag and the type.
+const FOUND: [(&str, u32, u32); 51] = [
+    // Sizes.
+    ("right", 1000, 6),
+    ("right", 1000, 8),
+    ("right", 1106, 4),
+    ("right", 1106, 3),
+    ("document_002", 1000, 6),
+    ("check02_limit", 1000, 6),
+    ("check02_one_more", 1000, 6),
+    ("check03_empty", 1000, 6),
+    ("check03_95_bytes", 1000, 6),
+    // Leads.
+    ("check04_magic", 1000, 6),
+    ("check04_major", 1000, 6),
+    ("check04_minor", 1000, 6),
+    ("check04_type", 1000, 6),
+    ("check04_name", 1000, 6),
+    ("check04_system", 1000, 6),
+    ("check04_signature_type", 1000, 6),
+    ("check04_two_fields", 1000, 6),
+    // Structures and the gap.
+    ("check05_signature", 1000, 6),
+    ("check05_header", 1000, 6),
+    ("check05_header_behind_end", 1000, 6),
+    ("check28_gap_filled", 1000, 6),
+    ("check28_last_byte", 1000, 6),
+    ("check28_two_bytes", 1000, 6),
+    ("check28_cut", 1000, 6),
+    ("check28_before_magic", 1000, 6),
+    ("check13_before_gap", 1000, 6),
+    ("check06_magic", 1000, 6),
+    ("check06_reserved", 1000, 6),
+    ("check07_none", 1000, 6),
+    ("check07_512", 2511, 7),
+    ("check07_513", 2511, 7),
+    ("check08_store_long", 1000, 6),
+    ("check08_largest", 1000, 6),
+    // Index records.
+    ("check09_type_0", 1000, 6),
+    ("check09_type_5", 1000, 6),
+    ("check09_type_10", 1000, 6),
+    ("check10_none", 1000, 6),
+    ("check10_two_strings", 1000, 6),
+    ("check11_int32_at_2", 1, 4),
+    ("check12_int32_count_2", 1, 4),
+    ("check12_product_wraps", 1, 4),
+    ("check12_zero_missing", 1, 6),
+    ("check12_bin_at_8", 1, 7),
+    ("check13_tag_twice", 1000, 6),
+    ("store8_int32_at_4", 1, 4),
+    ("store8_string_at_7", 1, 6),
+    // Translated strings.
+    ("header_translated", 1016, 9),
+    ("header_translated", 1016, 8),
+    ("check10_translated_none", 1016, 9),
+    ("check10_signature_translated", 1000, 6),
+    ("locales_right", 1004, 9),
+];
+
+// What is read: the package's name, the first edition and the last.
+const READ: [(&str, u32, u32); 59] = [
+    // Books.
+    ("book_example", 0, 4),
+    ("book_no_doses", 2, 2),
+    ("book_most_milligrams", 2, 2),
+    ("book_two_kinds", 1, 2),
+    ("book_limit", 2, 2),
+    // Request 7: books with lots, and edition 3.
+    ("book_lot", 1, 3),
+    ("book_lot_0", 3, 3),
+    ("book_lot_most", 3, 3),
+    ("book_two_kinds", 3, 3),
+    ("book_three_kinds", 1, 3),
+    ("book_lot_behind_98", 1, 3),
+    ("book_lots_limit", 3, 3),
+    ("check14_20002", 3, 3),
+    ("check15_20002_type", 3, 3),
+    ("check20_kind_ba", 3, 3),
+    ("check21_lot_cut", 3, 3),
+    ("check22_lot_oxide", 3, 3),
+    ("check22_lot_milligrams", 3, 3),
+    ("check23_lot_sum", 3, 3),
+    // The rules of 14 to 18.
+    ("check14_signature_1000", 2, 2),
+    ("check14_20001", 2, 2),
+    ("check14_20002", 1, 2),
+    ("check15_20002_type", 1, 2),
+    ("check16_whole_length", 2, 2),
+    ("check17_digest_alone", 2, 2),
+    ("check17_leader_missing", 2, 2),
+    ("check17_old_names", 2, 2),
+    ("check18_system", 2, 2),
+    ("check18_index", 2, 2),
+    ("check18_directory", 2, 2),
+    // Locales.
+    ("locales_right", 1, 2),
+    ("check17_locales", 1, 2),
+    ("check17_locales_one_too_many", 2, 2),
+    ("check17_locales_description", 2, 2),
+    ("check17_locales_no_line", 2, 2),
+    ("check17_locales_index_order", 2, 2),
+    ("check17_digest_before_locales", 2, 2),
+    ("check17_leader_before_locales", 2, 2),
+    // Request 3: the digest from H on, with one bit turned in a dose, in the payload or in the digest.
+    ("book_payload", 1, 2),
+    ("check27_dose_bit", 1, 2),
+    ("check27_payload_bit", 1, 2),
+    ("check27_payload_first_bit", 2, 2),
+    ("check27_digest_bit", 1, 2),
+    ("check27_digest_first_bit", 2, 2),
+    ("check27_from_the_lead", 2, 2),
+    ("check27_without_payload", 2, 2),
+    ("check27_after_system", 2, 2),
+    ("check27_before_4097_bytes", 2, 2),
+    // Request 5: a byte of the gap that isn't zero, before the rules and the digest.
+    ("check28_book", 1, 2),
+    ("check28_before_27", 1, 2),
+    // Records of a book.
+    ("check19_4097_bytes", 2, 2),
+    ("check20_kind_96", 2, 2),
+    ("check20_kind_80", 2, 2),
+    ("check21_kind_7f", 2, 2),
+    ("check21_date_cut", 1, 2),
+    ("check22_oxide_0", 2, 2),
+    ("check22_oxide_1000", 2, 2),
+    ("check22_milligrams", 2, 2),
+    ("check23_sum", 1, 2),
+];
+
 // Writes number and place of an answer, and ends the line.
 fn show(rt: &impl Print, answer: Answer) -> io::Result<()> {
     match answer {
-        Answer::Done(place) => println!(rt; "0 at {place}"),
-        Answer::Refused(number, place) => println!(rt; "{number} at {place}"),
+        Ok(place) => println!(rt; "0 at {place}"),
+        Err(refusal) => println!(rt; "{refusal}"),
     }
 }
 
@@ -22,7 +152,7 @@ fn load(rt: &impl Files, name: &str, room: &mut [u8]) -> io::Result<usize>
     ensures { IfOk result (λ n. IsPrefixLen n room.new) }
 {
     let mut file = fs::open(rt, name)?;
-    Ok(input::read(&mut file, room).count)
+    Ok(input::read(&mut file, room).unwrap_or_else(|failed| failed.count))
 }
 
 // Looks the tag and the type up in the header of a package, and writes the package's name and the answer.
@@ -50,18 +180,6 @@ fn read(rt: &(impl Files + Print + Eprint), name: &str, edition: u32) -> io::Res
     show(rt, answer)
 }
 
-// Reads a package at editions 1 and 2.
-fn read_first_two(rt: &(impl Files + Print + Eprint), name: &str) -> io::Result<()> {
-    read(rt, name, 1)?;
-    read(rt, name, 2)
-}
-
-// Reads a package at each edition.
-fn read_each(rt: &(impl Files + Print + Eprint), name: &str) -> io::Result<()> {
-    read_first_two(rt, name)?;
-    read(rt, name, 3)
-}
-
 // Writes the smallest package into a buffer, compares it with the one of data/, and writes the answer.
 fn write(rt: &(impl Files + Print + Eprint), name: &str) -> io::Result<()> {
     let mut pkg = [0u8; 65537];
@@ -72,7 +190,7 @@ fn write(rt: &(impl Files + Print + Eprint), name: &str) -> io::Result<()> {
     let mut out = [0u8; 201];
     let header = b"\x00\x00\x00\x01\x00\x00\x00\x07\x00\x00\x00\x01\x00\x00\x00\x01";
     let answer = writer::write(b"a", b"", b"", header, b"\x07", &mut out);
-    if be::same(&out, &pkg[..n]) {
+    if out[..] == pkg[..n] {
         print!(rt; "{name}: the same bytes, ")?;
     } else {
         print!(rt; "{name}: other bytes, ")?;
@@ -80,170 +198,14 @@ fn write(rt: &(impl Files + Print + Eprint), name: &str) -> io::Result<()> {
     show(rt, answer)
 }
 
-// Sizes, lead and structures.
-fn packages(rt: &(impl Files + Print + Eprint)) -> io::Result<()> {
-    find(rt, "right", 1000, 6)?;
-    find(rt, "right", 1000, 8)?;
-    find(rt, "right", 1106, 4)?;
-    find(rt, "right", 1106, 3)?;
-    find(rt, "document_002", 1000, 6)?;
-    find(rt, "check02_limit", 1000, 6)?;
-    find(rt, "check02_one_more", 1000, 6)?;
-    find(rt, "check03_empty", 1000, 6)?;
-    find(rt, "check03_95_bytes", 1000, 6)
-}
-
-fn leads(rt: &(impl Files + Print + Eprint)) -> io::Result<()> {
-    find(rt, "check04_magic", 1000, 6)?;
-    find(rt, "check04_major", 1000, 6)?;
-    find(rt, "check04_minor", 1000, 6)?;
-    find(rt, "check04_type", 1000, 6)?;
-    find(rt, "check04_name", 1000, 6)?;
-    find(rt, "check04_system", 1000, 6)?;
-    find(rt, "check04_signature_type", 1000, 6)?;
-    find(rt, "check04_two_fields", 1000, 6)
-}
-
-fn structures(rt: &(impl Files + Print + Eprint)) -> io::Result<()> {
-    find(rt, "check05_signature", 1000, 6)?;
-    find(rt, "check05_header", 1000, 6)?;
-    find(rt, "check05_header_behind_end", 1000, 6)?;
-    find(rt, "check28_gap_filled", 1000, 6)?;
-    find(rt, "check28_last_byte", 1000, 6)?;
-    find(rt, "check28_two_bytes", 1000, 6)?;
-    find(rt, "check28_cut", 1000, 6)?;
-    find(rt, "check28_before_magic", 1000, 6)?;
-    find(rt, "check13_before_gap", 1000, 6)?;
-    find(rt, "check06_magic", 1000, 6)?;
-    find(rt, "check06_reserved", 1000, 6)?;
-    find(rt, "check07_none", 1000, 6)?;
-    find(rt, "check07_512", 2511, 7)?;
-    find(rt, "check07_513", 2511, 7)?;
-    find(rt, "check08_store_long", 1000, 6)?;
-    find(rt, "check08_largest", 1000, 6)
-}
-
-fn records(rt: &(impl Files + Print + Eprint)) -> io::Result<()> {
-    find(rt, "check09_type_0", 1000, 6)?;
-    find(rt, "check09_type_5", 1000, 6)?;
-    find(rt, "check09_type_10", 1000, 6)?;
-    find(rt, "check10_none", 1000, 6)?;
-    find(rt, "check10_two_strings", 1000, 6)?;
-    find(rt, "check11_int32_at_2", 1, 4)?;
-    find(rt, "check12_int32_count_2", 1, 4)?;
-    find(rt, "check12_product_wraps", 1, 4)?;
-    find(rt, "check12_zero_missing", 1, 6)?;
-    find(rt, "check12_bin_at_8", 1, 7)?;
-    find(rt, "check13_tag_twice", 1000, 6)?;
-    find(rt, "store8_int32_at_4", 1, 4)?;
-    find(rt, "store8_string_at_7", 1, 6)
-}
-
-fn translated(rt: &(impl Files + Print + Eprint)) -> io::Result<()> {
-    find(rt, "header_translated", 1016, 9)?;
-    find(rt, "header_translated", 1016, 8)?;
-    find(rt, "check10_translated_none", 1016, 9)?;
-    find(rt, "check10_signature_translated", 1000, 6)?;
-    find(rt, "locales_right", 1004, 9)
-}
-
-fn books(rt: &(impl Files + Print + Eprint)) -> io::Result<()> {
-    read(rt, "book_example", 0)?;
-    read_each(rt, "book_example")?;
-    read(rt, "book_example", 4)?;
-    read(rt, "book_no_doses", 2)?;
-    read(rt, "book_most_milligrams", 2)?;
-    read_first_two(rt, "book_two_kinds")?;
-    read(rt, "book_limit", 2)
-}
-
-// Request 7: books with lots, and edition 3.
-fn lots(rt: &(impl Files + Print + Eprint)) -> io::Result<()> {
-    read_each(rt, "book_lot")?;
-    read(rt, "book_lot_0", 3)?;
-    read(rt, "book_lot_most", 3)?;
-    read(rt, "book_two_kinds", 3)?;
-    read_each(rt, "book_three_kinds")?;
-    read_each(rt, "book_lot_behind_98")?;
-    read(rt, "book_lots_limit", 3)?;
-    read(rt, "check14_20002", 3)?;
-    read(rt, "check15_20002_type", 3)?;
-    read(rt, "check20_kind_ba", 3)?;
-    read(rt, "check21_lot_cut", 3)?;
-    read(rt, "check22_lot_oxide", 3)?;
-    read(rt, "check22_lot_milligrams", 3)?;
-    read(rt, "check23_lot_sum", 3)
-}
-
-fn rules(rt: &(impl Files + Print + Eprint)) -> io::Result<()> {
-    read(rt, "check14_signature_1000", 2)?;
-    read(rt, "check14_20001", 2)?;
-    read_first_two(rt, "check14_20002")?;
-    read_first_two(rt, "check15_20002_type")?;
-    read(rt, "check16_whole_length", 2)?;
-    read(rt, "check17_digest_alone", 2)?;
-    read(rt, "check17_leader_missing", 2)?;
-    read(rt, "check17_old_names", 2)?;
-    read(rt, "check18_system", 2)?;
-    read(rt, "check18_index", 2)?;
-    read(rt, "check18_directory", 2)
-}
-
-fn locales(rt: &(impl Files + Print + Eprint)) -> io::Result<()> {
-    read_first_two(rt, "locales_right")?;
-    read_first_two(rt, "check17_locales")?;
-    read(rt, "check17_locales_one_too_many", 2)?;
-    read(rt, "check17_locales_description", 2)?;
-    read(rt, "check17_locales_no_line", 2)?;
-    read(rt, "check17_locales_index_order", 2)?;
-    read(rt, "check17_digest_before_locales", 2)?;
-    read(rt, "check17_leader_before_locales", 2)
-}
-
-// Request 3: the digest from H on, with one bit turned in a dose, in the payload or in the digest.
-fn digests(rt: &(impl Files + Print + Eprint)) -> io::Result<()> {
-    read_first_two(rt, "book_payload")?;
-    read_first_two(rt, "check27_dose_bit")?;
-    read_first_two(rt, "check27_payload_bit")?;
-    read(rt, "check27_payload_first_bit", 2)?;
-    read_first_two(rt, "check27_digest_bit")?;
-    read(rt, "check27_digest_first_bit", 2)?;
-    read(rt, "check27_from_the_lead", 2)?;
-    read(rt, "check27_without_payload", 2)?;
-    read(rt, "check27_after_system", 2)?;
-    read(rt, "check27_before_4097_bytes", 2)
-}
-
-// Request 5: a byte of the gap that isn't zero, before the rules and the digest.
-fn gaps(rt: &(impl Files + Print + Eprint)) -> io::Result<()> {
-    read_first_two(rt, "check28_book")?;
-    read_first_two(rt, "check28_before_27")
-}
-
-fn book_records(rt: &(impl Files + Print + Eprint)) -> io::Result<()> {
-    read(rt, "check19_4097_bytes", 2)?;
-    read(rt, "check20_kind_96", 2)?;
-    read(rt, "check20_kind_80", 2)?;
-    read(rt, "check21_kind_7f", 2)?;
-    read_first_two(rt, "check21_date_cut")?;
-    read(rt, "check22_oxide_0", 2)?;
-    read(rt, "check22_oxide_1000", 2)?;
-    read(rt, "check22_milligrams", 2)?;
-    read_first_two(rt, "check23_sum")
-}
-
 fn main(rt: HostRuntime) -> io::Result<()> {
-    packages(&rt)?;
-    leads(&rt)?;
-    structures(&rt)?;
-    records(&rt)?;
-    translated(&rt)?;
-    books(&rt)?;
-    lots(&rt)?;
-    rules(&rt)?;
-    locales(&rt)?;
-    digests(&rt)?;
-    gaps(&rt)?;
-    book_records(&rt)?;
+    for (name, tag, ty) in FOUND {
+        find(&rt, name, tag, ty)?;
+    }
+    for (name, first, last) in READ {
+        for edition in first..=last {
+            read(&rt, name, edition)?;
+        }
+    }
     write(&rt, "written_smallest")
 }

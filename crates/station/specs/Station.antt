@@ -2,8 +2,8 @@
 -- number × 2^32 + place.
 use Rattle.std.specs.Prelude.{ℕ, ◌≡◌, List, length}
 use Rattle.format.specs.Verdicts.{packed_of}
-use Rattle.runs.specs.declared.Order.{Order}
-use Rattle.runs.specs.declared.Order.TheVariants.{Older, Same, Newer}
+use Rattle.std.specs.declared.cmp.Ordering.{Ordering}
+use Rattle.std.specs.declared.cmp.Ordering.TheVariants as order
 use Rattle.reading.specs.Reading.{read_answer}
 use Rattle.reading.specs.Buffers.{numbers_in, bytes_after}
 use Rattle.verify.specs.Lent.{digest_answer, digest_after}
@@ -25,7 +25,7 @@ pub record StationDigest (bytes before : List ℕ) (answer : ℕ) (after : List 
   pub buffer : after ≡ digest_after bytes before
 
 -- Request 6: how one version text stands to another, for C
-abbrev pub order_number : Order → ℕ
-order_number Older = 0
-order_number Same = 1
-order_number Newer = 2
+abbrev pub order_number : Ordering → ℕ
+order_number order.Less = 0
+order_number order.Equal = 1
+order_number order.Greater = 2

@@ -10,14 +10,15 @@ ghost use Rattle.version.specs.Version.{by_text};
 ghost use Rattle.meets.specs.Meets.{meets_answer};
 ghost use Rattle.station.specs.Station.{StationRead, StationWrite, StationDigest, order_number};
 
-use runs::Order;
+use format::packed;
+use std::cmp::Ordering;
 
 // A look-up: 0 and the data's file offset, or the first failing check of 2 to 13, 28 and 25.
 #[unsafe(no_mangle)]
 pub extern "C" fn station_find(pkg: &[u8], structure: u32, tag: u32, ty: u32) -> u64
     ensures { result ≡ packed_of (find_answer pkg.now structure tag ty) }
 {
-    lookups::find_answer(pkg, structure, tag, ty).packed()
+    packed(lookups::find_answer(pkg, structure, tag, ty))
 }
 
 // An element look-up: 0 and the element's file offset, or the first failing check of 2 to 13, 28, 25 and 26.
@@ -31,7 +32,7 @@ pub extern "C" fn station_find_element(
 ) -> u64
     ensures { result ≡ packed_of (find_element_answer pkg.now structure tag ty element) }
 {
-    elements::find_element_answer(pkg, structure, tag, ty, element).packed()
+    packed(elements::find_element_answer(pkg, structure, tag, ty, element))
 }
 
 // The reading at an edition: 0 and the dose count, with the doses at the front of the buffer, four bytes to a number,
@@ -40,7 +41,7 @@ pub extern "C" fn station_find_element(
 pub extern "C" fn station_read(edition: u32, pkg: &[u8], doses: &mut [u8]) -> u64
     ensures { StationRead edition pkg.now doses.old result doses.new }
 {
-    reading::read_bytes(edition, pkg, doses).packed()
+    packed(reading::read_bytes(edition, pkg, doses))
 }
 
 // A writing: 0 and the package's length, with the package at the front of the buffer; or the first of 32 to 34 that refuses
@@ -57,7 +58,7 @@ pub extern "C" fn station_write(
     ensures { StationWrite name.now signature.now signature_data.now
         header.now header_data.now out.old result out.new }
 {
-    writer::write(name, signature, signature_data, header, header_data, out).packed()
+    packed(writer::write(name, signature, signature_data, header, header_data, out))
 }
 
 // The digest of any bytes: 0 and 16, with the digest at the front of the buffer; or, where it has no room for 16 bytes, 34 at
@@ -66,7 +67,7 @@ pub extern "C" fn station_write(
 pub extern "C" fn station_digest(bytes: &[u8], digest: &mut [u8]) -> u64
     ensures { StationDigest bytes.now digest.old result digest.new }
 {
-    verify::put_digest(bytes, digest).packed()
+    packed(verify::put_digest(bytes, digest))
 }
 
 // How the left version text stands to the right one: 0 older, 1 the same, 2 newer.
@@ -74,11 +75,10 @@ pub extern "C" fn station_digest(bytes: &[u8], digest: &mut [u8]) -> u64
 pub extern "C" fn station_compare(left: &[u8], right: &[u8]) -> u32
     ensures { result ≡ order_number (by_text left.now right.now) }
 {
-    let order = version::compare(left, right);
-    match order {
-        Order::Older => 0,
-        Order::Same => 1,
-        Order::Newer => 2,
+    match version::compare(left, right) {
+        Ordering::Less => 0,
+        Ordering::Equal => 1,
+        Ordering::Greater => 2,
     }
 }
 
@@ -88,5 +88,5 @@ pub extern "C" fn station_compare(left: &[u8], right: &[u8]) -> u32
 pub extern "C" fn station_meets(pkg: &[u8], name: &[u8], version: &[u8]) -> u64
     ensures { result ≡ packed_of (meets_answer pkg.now name.now version.now) }
 {
-    meets::meets(pkg, name, version).packed()
+    packed(meets::meets(pkg, name, version))
 }

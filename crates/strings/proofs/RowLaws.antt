@@ -9,14 +9,14 @@ use lib.Dec.{eqb}
 use lib.ListN.{get_or}
 use native.Mathlib.Omega.{arith}
 use borrow.Author.Tests.{eqb-true, eqb-false}
-use Rattle.strings.specs.declared.Ending.TheVariants.{Ends}
+use Rattle.std.specs.Prelude.{Some}
 use Rattle.strings.specs.Strings.{strings_from, is_ended}
 use Rattle.strings.proofs.StringLaws.{split}
 
 -- string k of a row: where it starts and where it ends
-pub string_at : (s : List ℕ) (room at k n e : ℕ) → k < n → strings_from s room at n ≡ Ends e
-    → (m : ℕ) × (m' : ℕ) × (strings_from s room at k ≡ Ends m) × (strings_from s room at (k + 1) ≡ Ends m')
-    × (strings_from s (at + room - m) m 1 ≡ Ends m')
+pub string_at : (s : List ℕ) (room at k n e : ℕ) → k < n → strings_from s room at n ≡ Some e
+    → (m : ℕ) × (m' : ℕ) × (strings_from s room at k ≡ Some m) × (strings_from s room at (k + 1) ≡ Some m')
+    × (strings_from s (at + room - m) m 1 ≡ Some m')
 string_at s room at k n e l h =
     let later = split s room at (k + 1) (n - (k + 1)) n e (omega arith) h in
     let first = split s room at k 1 (k + 1) later.0 refl later.1 in
@@ -24,27 +24,27 @@ string_at s room at k n e l h =
 
 -- a single string ends with its zero byte, the only one
 module _ (s : List ℕ) where
-  pub single_ends : (room at e : ℕ) → strings_from s room at 1 ≡ Ends e → get_or s (e - 1) 0 ≡ 0
+  pub single_ends : (room at e : ℕ) → strings_from s room at 1 ≡ Some e → get_or s (e - 1) 0 ≡ 0
   unfolding strings_from
   single_ends zero at e h = let z : ◌≡◌ {A = ℕ} 0 1 = cc in absurd (omega arith)
   single_ends (suc room) at e h = go (eqb (get_or s at 0) 0) refl h (single_ends room (at + 1) e)
     where
       go : (b : Bool) → eqb (get_or s at 0) 0 ≡ b
-          → cond b (strings_from s room (at + 1) 0) (strings_from s room (at + 1) 1) ≡ Ends e
-          → (strings_from s room (at + 1) 1 ≡ Ends e → get_or s (e - 1) 0 ≡ 0) → get_or s (e - 1) 0 ≡ 0
+          → cond b (strings_from s room (at + 1) 0) (strings_from s room (at + 1) 1) ≡ Some e
+          → (strings_from s room (at + 1) 1 ≡ Some e → get_or s (e - 1) 0 ≡ 0) → get_or s (e - 1) 0 ≡ 0
       go true t q f = let w : at + 1 ≡ e = cc in let v : e - 1 ≡ at = omega arith in rw v (eqb-true _ _ t)
       go false t q f = f q
 
-  pub single_text : (room at e : ℕ) → strings_from s room at 1 ≡ Ends e
+  pub single_text : (room at e : ℕ) → strings_from s room at 1 ≡ Some e
       → (i : ℕ) → at + i + 1 < e → get_or s (at + i) 0 ≡ 0 → ⊥
   unfolding strings_from
   single_text zero at e h i l q = let z : ◌≡◌ {A = ℕ} 0 1 = cc in absurd (omega arith)
   single_text (suc room) at e h i l q = go (eqb (get_or s at 0) 0) refl h i l q (single_text room (at + 1) e)
     where
       go : (b : Bool) → eqb (get_or s at 0) 0 ≡ b
-          → cond b (strings_from s room (at + 1) 0) (strings_from s room (at + 1) 1) ≡ Ends e
+          → cond b (strings_from s room (at + 1) 0) (strings_from s room (at + 1) 1) ≡ Some e
           → (i : ℕ) → at + i + 1 < e → get_or s (at + i) 0 ≡ 0
-          → (strings_from s room (at + 1) 1 ≡ Ends e → (i : ℕ) → at + 1 + i + 1 < e → get_or s (at + 1 + i) 0 ≡ 0 → ⊥) → ⊥
+          → (strings_from s room (at + 1) 1 ≡ Some e → (i : ℕ) → at + 1 + i + 1 < e → get_or s (at + 1 + i) 0 ≡ 0 → ⊥) → ⊥
       go true t g i l q f = let w : at + 1 ≡ e = cc in omega arith
       go false t g zero l q f = let v : at + 0 ≡ at = omega arith in eqb-false _ _ t (rw v at q)
       go false t g (suc i) l q f = let v : at + suc i ≡ at + 1 + i = omega arith in f g i (omega arith) (rw v at q)

@@ -2,69 +2,20 @@
 // A byte past the end reads as 0.
 #![tactic(auto)]
 
-ghost use Rattle.std.specs.Prelude.{◌≡◌, ℕ, ◌+◌, ◌-◌, ◌≤◌, ◌<◌, length};
-ghost use Rattle.strings.specs.Strings.{strings_from, next_zero, empty_strings, is_ended};
-
-// Where a run of strings ends.
-#[derive(Clone, Copy)]
-pub enum Ending {
-    Ends(usize),
-    Open,
-}
-
-// Where the bytes before `end` stop: there, or where the slice does.
-fn stop_before(s: &[u8], end: usize) -> usize
-    ensures { result ≡ length s.now - (length s.now - end) }
-{
-    if s.len() < end { s.len() } else { end }
-}
-
-// The place of the first zero byte of four; the place behind them where there is none.
-fn zero_of_4(s: &[u8], at: usize) -> usize
-    requires { at + 4 ≤ length s.now }
-    ensures { result ≡ next_zero s.now 4 at }
-{
-    if s[at] == 0 {
-        return at;
-    }
-    if s[at + 1] == 0 {
-        return at + 1;
-    }
-    if s[at + 2] == 0 {
-        return at + 2;
-    }
-    if s[at + 3] == 0 {
-        return at + 3;
-    }
-    at + 4
-}
-
-// The same of eight.
-fn zero_of_8(s: &[u8], at: usize) -> usize
-    requires { at + 8 ≤ length s.now }
-    ensures { result ≡ next_zero s.now 8 at }
-{
-    let half = at + 4;
-    let zero = zero_of_4(s, at);
-    if zero < half {
-        return zero;
-    }
-    zero_of_4(s, half)
-}
+ghost use Rattle.std.specs.Prelude.{◌≡◌, ◌-◌, ◌≤◌, length};
+ghost use Rattle.strings.specs.Strings.{strings_from, next_zero, empty_strings};
 
 // The place of the first zero byte from `at`, before `stop`; `stop` where there is none, or `at` behind it.
 fn next_zero_near(s: &[u8], at: usize, stop: usize) -> usize
     requires { stop ≤ length s.now }
     ensures { result ≡ next_zero s.now (stop - at) at }
 {
-    let mut i = at;
-    while i < stop {
+    for i in at..stop {
         if s[i] == 0 {
             return i;
         }
-        i += 1;
     }
-    i
+    at.max(stop)
 }
 
 // The same, eight bytes at a time while there is room.
@@ -72,13 +23,10 @@ fn next_zero(s: &[u8], at: usize, stop: usize) -> usize
     requires { stop ≤ length s.now }
     ensures { result ≡ next_zero s.now (stop - at) at }
 {
-    if stop < 8 {
-        return next_zero_near(s, at, stop);
-    }
-    let last = stop - 8;
+    let wide = stop.saturating_sub(7);
     let mut i = at;
-    while i <= last {
-        let zero = zero_of_8(s, i);
+    while i < wide {
+        let zero = next_zero_near(s, i, i + 8);
         i += 8;
         if zero < i {
             return zero;
@@ -88,45 +36,29 @@ fn next_zero(s: &[u8], at: usize, stop: usize) -> usize
 }
 
 // The place behind `count` empty strings from `at`, all before `end`.
-fn empty_strings_end(at: usize, end: usize, count: u32) -> Ending
-    requires { 0 < count }
+fn empty_strings_end(at: usize, end: usize, count: u32) -> Option<usize>
     ensures { result ≡ empty_strings (end - at) at count }
 {
-    if end <= at {
-        return Ending::Open;
-    }
-    let room = end - at;
     let needed = count as usize;
-    if room < needed {
-        return Ending::Open;
+    if needed <= end.saturating_sub(at) {
+        Some(at + needed)
+    } else {
+        None
     }
-    Ending::Ends(at + needed)
 }
 
 // The place behind `count` strings in a row from `at`, all before `end`.
-pub fn strings_end(s: &[u8], at: usize, end: usize, count: u32) -> Ending
+pub fn strings_end(s: &[u8], at: usize, end: usize, count: u32) -> Option<usize>
     ensures { result ≡ strings_from s.now (end - at) at count }
 {
-    let stop = stop_before(s, end);
+    let stop = end.min(s.len());
     let mut i = at;
-    let mut left = count;
-    while 0 < left {
+    for done in 0..count {
         let zero = next_zero(s, i, stop);
         if stop <= zero {
-            return empty_strings_end(zero, end, left);
+            return empty_strings_end(zero, end, count - done);
         }
         i = zero + 1;
-        left -= 1;
     }
-    Ending::Ends(i)
-}
-
-// Whether a run of strings ended.
-pub fn ended(e: Ending) -> bool
-    ensures { result ≡ is_ended e }
-{
-    match e {
-        Ending::Ends(_) => true,
-        Ending::Open => false,
-    }
+    Some(i)
 }

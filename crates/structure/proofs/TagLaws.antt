@@ -9,11 +9,11 @@ use borrow.Author.Tests.{eqb-true, eqb-false, eq-eqb, not-true}
 use Rattle.format.specs.declared.section.Section.{Section}
 use Rattle.format.specs.declared.section.Structure.{Structure}
 use Rattle.format.specs.declared.records.IndexRecord.{IndexRecord}
-use Rattle.format.specs.declared.verdict.Verdict.TheVariants.{Pass}
 use Rattle.format.proofs.VerdictLaws.{inverted}
 use Rattle.entries.specs.Entries.{record_at, entry_check, record_check}
 use Rattle.repeats.specs.Repeats.{tag_before}
 use Rattle.index.specs.Lookup.{is_for}
+use Rattle.format.specs.Verdicts.{pass}
 
 and_true : (a b : Bool) → (a && b) ≡ true → (a ≡ true) × (b ≡ true)
 and_true true b h = (refl, h)
@@ -45,7 +45,7 @@ module _ (s : List ℕ) (section : Section) where
 
 module _ (structure : Structure) (s : List ℕ) (section : Section) where
   -- check 13
-  tag_new : (k : ℕ) → record_check structure s section k ≡ Pass → tag_before s section k (record_at s section k).tag ≡ false
+  tag_new : (k : ℕ) → record_check structure s section k ≡ pass → tag_before s section k (record_at s section k).tag ≡ false
   unfolding entry_check
   tag_new k h =
       let k9 = inverted _ _ _ _ h in
@@ -54,14 +54,14 @@ module _ (structure : Structure) (s : List ℕ) (section : Section) where
       let k12 = inverted _ _ _ _ k11.1 in
       not-true _ (inverted _ _ _ _ k12.1).0
 
-  earlier_differs : (j k : ℕ) → j < k → record_check structure s section k ≡ Pass
+  earlier_differs : (j k : ℕ) → j < k → record_check structure s section k ≡ pass
       → (record_at s section j).tag ≡ (record_at s section k).tag → ⊥
   earlier_differs j k l p h =
       let e : true ≡ false = sym (tag_before_lem s section j k _ l h) ∙ tag_new k p in
       let z : ◌≡◌ {A = ℕ} 0 1 = cc in
       omega arith
 
-  pub tags_once : (j k : ℕ) → record_check structure s section j ≡ Pass → record_check structure s section k ≡ Pass
+  pub tags_once : (j k : ℕ) → record_check structure s section j ≡ pass → record_check structure s section k ≡ pass
       → (record_at s section j).tag ≡ (record_at s section k).tag → j ≡ k
   tags_once j k p q h =
       let a : j < k → ⊥ = λ l. earlier_differs j k l q h in

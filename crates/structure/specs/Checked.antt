@@ -1,26 +1,24 @@
 -- A structure as it was checked.
-use Rattle.std.specs.Prelude.{ℕ, List}
+use Rattle.std.specs.Prelude.{ℕ, List, Result, Ok, Err}
 use Rattle.format.specs.declared.section.Section.{Section}
 use Rattle.format.specs.declared.section.Structure.{Structure}
-use Rattle.format.specs.declared.verdict.Verdict.{Verdict}
-use Rattle.format.specs.declared.verdict.Verdict.TheVariants.{Pass, Fail}
-use Rattle.structure.specs.declared.Checked.{Checked}
-use Rattle.structure.specs.declared.Checked.TheVariants.{Sound, Unsound}
 use Rattle.structure.specs.Structure.{structure_check, section_at}
+use Rattle.format.specs.Verdicts.{Verdict}
+use Rattle.format.specs.declared.verdict.Refusal.{Refusal}
 
 -- a structure that passed its checks, or the first that failed with its place
-abbrev pub checked_as : Verdict → Section → Checked
-checked_as Pass section = Sound section
-checked_as (Fail number place) section = Unsound number place
+abbrev pub checked_as : Verdict → Section → Result Section Refusal
+checked_as (Ok _) section = Ok section
+checked_as (Err e) section = Err e
 
-abbrev pub structure_checked : Structure → List ℕ → ℕ → ℕ → Checked
+abbrev pub structure_checked : Structure → List ℕ → ℕ → ℕ → Result Section Refusal
 structure_checked structure s len start = checked_as (structure_check structure s len start) (section_at s start)
 
 -- the paper's number and place: 0 and 0 where all checks passed
-abbrev pub checked_number : Checked → ℕ
-checked_number (Sound section) = 0
-checked_number (Unsound number place) = number
+abbrev pub checked_number : Result Section Refusal → ℕ
+checked_number (Ok section) = 0
+checked_number (Err e) = e.number
 
-abbrev pub checked_place : Checked → ℕ
-checked_place (Sound section) = 0
-checked_place (Unsound number place) = place
+abbrev pub checked_place : Result Section Refusal → ℕ
+checked_place (Ok section) = 0
+checked_place (Err e) = e.place

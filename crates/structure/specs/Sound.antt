@@ -1,6 +1,5 @@
 -- Document 01, "Header structure", as it says what a right structure is: no order and no numbers.
-use Rattle.std.specs.Prelude.{ℕ, ◌+◌, ◌*◌, ◌≤◌, ◌≡◌, List, true}
-use Rattle.strings.specs.declared.Ending.TheVariants.{Ends}
+use Rattle.std.specs.Prelude.{ℕ, ◌+◌, ◌*◌, ◌≤◌, ◌≡◌, List, true, Some}
 use Rattle.strings.specs.Strings.{strings_from}
 use Rattle.format.specs.declared.records.HeaderRecord.{HeaderRecord}
 use Rattle.format.specs.Sizes.{header_record_size, nindex_limit}
@@ -26,6 +25,6 @@ pub record SoundEntry (s : List ℕ) (len : ℕ) (entry : Entry) : Type 0 where
   pub some : 1 ≤ entry.count
   pub bytes : 1 ≤ entry.extent
   pub inside : entry.at.0 + entry.extent ≤ len
-  pub fixed : (n : ℕ) → element_size entry.ty ≡ Bytes n → entry.extent ≡ n * entry.count
-  pub strings : element_size entry.ty ≡ ToZero
-      → strings_from s entry.extent entry.at.0 entry.count ≡ Ends (entry.at.0 + entry.extent)
+  pub fixed : (n : ℕ) → element_size entry.ty ≡ Some (Bytes n) → entry.extent ≡ n * entry.count
+  pub strings : element_size entry.ty ≡ Some ToZero
+      → strings_from s entry.extent entry.at.0 entry.count ≡ Some (entry.at.0 + entry.extent)

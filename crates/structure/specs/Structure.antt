@@ -4,12 +4,10 @@ use Rattle.std.specs.Prelude.{ℕ, ◌+◌, List, Bool, eqb, leb}
 use Rattle.format.specs.declared.section.Section.{Section}
 use Rattle.format.specs.declared.section.Structure.{Structure}
 use Rattle.format.specs.declared.records.HeaderRecord.{HeaderRecord}
-use Rattle.format.specs.declared.verdict.Verdict.{Verdict}
-use Rattle.format.specs.declared.verdict.Verdict.TheVariants.{Pass}
 use Rattle.format.specs.Sizes.{header_record_size, nindex_limit}
 use Rattle.format.specs.Places.{section_end}
 use Rattle.format.specs.Records.{header_record_at}
-use Rattle.format.specs.Verdicts.{check, both, run_from}
+use Rattle.format.specs.Verdicts.{check, both, run_from, Verdict, pass}
 use Rattle.entries.specs.Entries.{record_check}
 
 -- the structure that a header record describes
@@ -50,7 +48,7 @@ header_check len start h =
     (check (nindex_some h) 7 (start + 8)
     (check (nindex_within h) 7 (start + 8)
     (check (structure_fits len start h) 8 (start + 12)
-    Pass)))))
+    pass)))))
 
 -- 9 to 13 for each index record, in order
 abbrev pub records_check : Structure → List ℕ → Section → Verdict

@@ -1,5 +1,5 @@
 // One header structure: checks 5 to 8, and 5 to 13 in order.
-#![tactic(auto)]
+#![tactic(auto, unfolding(format::specs::Verdicts::both, format::specs::Verdicts::check, crate::specs::Structure::header_check, crate::specs::Structure::structure_check))]
 
 ghost use Rattle.std.specs.Prelude.{◌≡◌, ◌+◌, ◌<◌};
 ghost use Rattle.format.specs.Places.{store_place};
@@ -7,15 +7,8 @@ ghost use Rattle.structure.specs.Structure.{header_check, records_check};
 ghost use Rattle.structure.specs.Checked.{structure_checked};
 
 use entries::entry_check;
-use format::{HeaderRecord, Section, Structure, Verdict};
+use format::{HeaderRecord, Refusal, Section, Structure, Verdict};
 use places::Start;
-
-// A structure that passed its checks, or the first check that failed and its place.
-#[derive(Clone, Copy)]
-pub enum Checked {
-    Sound(Section),
-    Unsound(u32, u32),
-}
 
 // Checks 5 to 8 for the header record at `start`, in a package of `len` bytes.
 fn header_check(len: u32, start: Start, h: HeaderRecord) -> Verdict
@@ -25,22 +18,22 @@ fn header_check(len: u32, start: Start, h: HeaderRecord) -> Verdict
     let magic = start.get();
     let first = magic as usize + HeaderRecord::SIZE;
     if room < first {
-        return Verdict::Fail(5, magic);
+        return Err(Refusal::new(5, magic));
     }
     let reserved = magic + HeaderRecord::RESERVED as u32;
     let nindex = magic + HeaderRecord::NINDEX as u32;
     let hsize = magic + HeaderRecord::HSIZE as u32;
     if h.magic != 0x8EAD_E801 {
-        return Verdict::Fail(6, magic);
+        return Err(Refusal::new(6, magic));
     }
     if h.reserved != 0 {
-        return Verdict::Fail(6, reserved);
+        return Err(Refusal::new(6, reserved));
     }
     if h.nindex < 1 {
-        return Verdict::Fail(7, nindex);
+        return Err(Refusal::new(7, nindex));
     }
     if HeaderRecord::NINDEX_LIMIT < h.nindex {
-        return Verdict::Fail(7, nindex);
+        return Err(Refusal::new(7, nindex));
     }
     let section = Section {
         start: start,
@@ -49,9 +42,9 @@ fn header_check(len: u32, start: Start, h: HeaderRecord) -> Verdict
     };
     let end = section.end();
     if room < end.get() {
-        return Verdict::Fail(8, hsize);
+        return Err(Refusal::new(8, hsize));
     }
-    Verdict::Pass
+    Ok(())
 }
 
 // Checks 9 to 13 for each index record in turn.
@@ -61,36 +54,25 @@ fn records_check(structure: Structure, s: &[u8], section: Section) -> Verdict
 {
     let n = section.nindex;
     let repeat = repeats::first_in_index(s, section);
-    let mut i = 0;
-    while i < n {
+    for i in 0..n {
         let place = section.index_record(i);
         let e = section.record(s, n, i);
-        let v = entry_check(structure, s, section, place.get() as u32, e, i == repeat);
-        if let Verdict::Fail(number, at) = v {
-            return Verdict::Fail(number, at);
-        }
-        i += 1;
+        entry_check(structure, s, section, place.get() as u32, e, i == repeat)?;
     }
-    Verdict::Pass
+    Ok(())
 }
 
 // Checks 5 to 13 for the structure at `start` in a package of `len` bytes.
-pub fn check(structure: Structure, s: &[u8], len: u32, start: Start) -> Checked
+pub fn check(structure: Structure, s: &[u8], len: u32, start: Start) -> Result<Section, Refusal>
     ensures { result ≡ structure_checked structure s.now len start.0 }
 {
     let h = HeaderRecord::at(s, start.in_file());
-    let v = header_check(len, start, h);
-    if let Verdict::Fail(number, at) = v {
-        return Checked::Unsound(number, at);
-    }
+    header_check(len, start, h)?;
     let section = Section {
         start: start,
         nindex: h.nindex,
         hsize: h.hsize,
     };
-    let w = records_check(structure, s, section);
-    if let Verdict::Fail(number, at) = w {
-        return Checked::Unsound(number, at);
-    }
-    Checked::Sound(section)
+    records_check(structure, s, section)?;
+    Ok(section)
 }

@@ -1,13 +1,11 @@
--- Laws of `gathered_from`, one for each way through a turn: none_yet, turn, spent.
-use Prim.Native.Nat.{ℕ, suc, ◌+◌, ◌-◌, ◌≤◌, ◌<◌}
-use mathlib.Core.Path.{◌≡◌, refl, sym, ◌∙◌}
-use mathlib.Core.List.{List}
-use native.Mathlib.Omega.{arith}
+-- Laws of `gathered_from`: with no record (none_yet), with one more (turn), with all (spent).
+use Rattle.std.proofs.Common.{ℕ, suc, ◌+◌, ◌-◌, ◌≤◌, ◌<◌, ◌≡◌, refl, sym, ◌∙◌, List, arith}
 use Rattle.format.specs.declared.section.Section.{Section}
 use Rattle.entries.specs.Entries.{record_at}
+use Rattle.tags.specs.declared.Table.{Table}
 use Rattle.tags.specs.Tables.{noted, gathered_from, gathered}
 
-module _ (s : List ℕ) (section : Section) (table : List ℕ) where
+module _ (s : List ℕ) (section : Section) (table : Table) where
   pub step : (n i : ℕ) → gathered_from s section table (suc n) i ≡ noted (record_at s section i) (gathered_from s section table n (i + 1))
   unfolding gathered_from
   step n i = refl
@@ -26,12 +24,12 @@ module _ (s : List ℕ) (section : Section) (table : List ℕ) where
       let j : i - 1 + 1 ≡ i = omega arith in
       rw (k, step (n - i) (i - 1), j)
 
-  -- t is the table of the records from number i on, t' what it is with record i - 1
-  pub turn : (n i : ℕ) {t t' : List ℕ} → t ≡ gathered_from s section table (n - i) i → 0 < i → i ≤ n
-      → t' ≡ noted (record_at s section (i - 1)) t → t' ≡ gathered_from s section table (n - (i - 1)) (i - 1)
+  -- t is the table of the records from number i on, u what it is with record i - 1
+  pub turn : (n i : ℕ) {t u : Table} → t ≡ gathered_from s section table (n - i) i → 0 < i → i ≤ n
+      → u ≡ noted (record_at s section (i - 1)) t → u ≡ gathered_from s section table (n - (i - 1)) (i - 1)
   turn n i inv l h r = r ∙ rw inv (sym (unrolled n i l h))
 
-  pub spent : (i : ℕ) {t : List ℕ} → t ≡ gathered_from s section table (section.nindex - i) i → i ≤ 0 → t ≡ gathered s section table
+  pub spent : (i : ℕ) {t : Table} → t ≡ gathered_from s section table (section.nindex - i) i → i ≤ 0 → t ≡ gathered s section table
   spent i inv l =
       let z : i ≡ 0 = omega arith in
       let e : section.nindex - 0 ≡ section.nindex = omega arith in

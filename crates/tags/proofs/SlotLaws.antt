@@ -1,68 +1,66 @@
--- A slot is one tag's alone: only.
-use Prim.Native.Nat.{ℕ, ◌+◌, ◌-◌, ◌≤◌, ◌<◌}
-use mathlib.Core.Path.{◌≡◌, refl, sym, ap, ◌∙◌}
-use mathlib.Core.Bool.{Bool, true, false, cond}
-use lib.Dec.{eqb, leb}
-use native.Mathlib.Omega.{arith}
+-- A slot is one tag's alone (only), and one of the table's (within).
+use Rattle.std.proofs.Common.{ℕ, ◌+◌, ◌-◌, ◌≤◌, ◌<◌, ◌≡◌, refl, sym, ap, ◌∙◌, Bool, true, false, cond, ◌&&◌, eqb, leb, arith}
+use Rattle.std.specs.Prelude.{Option, Some, None}
 use borrow.Author.Tests.{eqb-true, leb-true, le-leb, lt-leb}
 use Rattle.tags.specs.Tables.{slots, slot_of}
 
 -- the tag of a slot
-tag_of : ℕ → ℕ
+pub tag_of : ℕ → ℕ
 tag_of k =
     cond (leb k 55) (k + 1000)
     (cond (leb k 108) (k + 1024)
     (cond (eqb k 109) 1064
     (cond (eqb k 110) 20001 (cond (eqb k 111) 20002 (cond (eqb k 112) 62 (cond (eqb k 113) 63 100))))))
 
-first : (k : ℕ) → k ≤ 55 → tag_of k ≡ k + 1000
+low : (k : ℕ) → k ≤ 55 → tag_of k ≡ k + 1000
 unfolding tag_of
-first k l = rw (le-leb k 55 l)
+low k l = rw (le-leb k 55 l)
 
-second : (k : ℕ) → 55 < k → k ≤ 108 → tag_of k ≡ k + 1024
+high : (k : ℕ) → 55 < k → k ≤ 108 → tag_of k ≡ k + 1024
 unfolding tag_of
-second k l m = rw (lt-leb k 55 l, le-leb k 108 m)
+high k l m = rw (lt-leb k 55 l, le-leb k 108 m)
 
-module _ (tag : ℕ) where
-  -- the three runs of the slots: by the tests that choose them
-  upper : (a b c : Bool) → 1080 ≤ tag → leb tag 1132 ≡ a → eqb tag 20001 ≡ b → eqb tag 20002 ≡ c
-      → cond a (tag - 1024) (cond b 110 (cond c 111 slots)) < slots
-      → tag_of (cond a (tag - 1024) (cond b 110 (cond c 111 slots))) ≡ tag
-  unfolding tag_of
-  upper true b c h p q r l = let n = leb-true tag 1132 p in second (tag - 1024) (omega arith) (omega arith) ∙ omega arith
-  upper false true c h p q r l = sym (eqb-true tag 20001 q)
-  upper false false true h p q r l = sym (eqb-true tag 20002 r)
-  upper false false false h p q r l = absurd (omega arith)
+module _ (tag k : ℕ) where
+  abbrev pub Back : Type 0
+  Back = (tag_of k ≡ tag) × (k < slots)
 
-  middle : (a b : Bool) → 1000 ≤ tag → leb tag 1055 ≡ a → eqb tag 1064 ≡ b
-      → cond a (tag - 1000) (cond b 109 slots) < slots → tag_of (cond a (tag - 1000) (cond b 109 slots)) ≡ tag
-  unfolding tag_of
-  middle true b h p q l = let n = leb-true tag 1055 p in first (tag - 1000) (omega arith) ∙ omega arith
-  middle false true h p q l = sym (eqb-true tag 1064 q)
-  middle false false h p q l = absurd (omega arith)
-
-  lower : (a b c : Bool) → eqb tag 62 ≡ a → eqb tag 63 ≡ b → eqb tag 100 ≡ c
-      → cond a 112 (cond b 113 (cond c 114 slots)) < slots → tag_of (cond a 112 (cond b 113 (cond c 114 slots))) ≡ tag
-  unfolding tag_of
-  lower true b c p q r l = sym (eqb-true tag 62 p)
-  lower false true c p q r l = sym (eqb-true tag 63 q)
-  lower false false true p q r l = sym (eqb-true tag 100 r)
-  lower false false false p q r l = absurd (omega arith)
-
-  back : slot_of tag < slots → tag_of (slot_of tag) ≡ tag
-  unfolding slot_of
-  back = go (leb 1080 tag) (leb 1000 tag) refl refl
+  -- one arm of the choice of a slot, and those behind it
+  one : (m n : ℕ) (rest : Option ℕ) → tag_of n ≡ m → n < slots → (rest ≡ Some k → Back)
+      → cond (eqb tag m) (Some n) rest ≡ Some k → Back
+  one m n rest t l next h = go (eqb tag m) refl h
     where
-      chosen : Bool → Bool → ℕ
-      chosen a b =
-          cond a (cond (leb tag 1132) (tag - 1024) (cond (eqb tag 20001) 110 (cond (eqb tag 20002) 111 slots)))
-          (cond b (cond (leb tag 1055) (tag - 1000) (cond (eqb tag 1064) 109 slots))
-          (cond (eqb tag 62) 112 (cond (eqb tag 63) 113 (cond (eqb tag 100) 114 slots))))
+      go : (b : Bool) → eqb tag m ≡ b → cond b (Some n) rest ≡ Some k → Back
+      go true q h =
+          let same : n ≡ k = cc in
+          (ap tag_of (sym same) ∙ t ∙ sym (eqb-true tag m q), omega arith)
+      go false q h = next h
 
-      go : (a b : Bool) → leb 1080 tag ≡ a → leb 1000 tag ≡ b → chosen a b < slots → tag_of (chosen a b) ≡ tag
-      go true b p q l = upper (leb tag 1132) (eqb tag 20001) (eqb tag 20002) (leb-true 1080 tag p) refl refl refl l
-      go false true p q l = middle (leb tag 1055) (eqb tag 1064) (leb-true 1000 tag q) refl refl l
-      go false false p q l = lower (eqb tag 62) (eqb tag 63) (eqb tag 100) refl refl refl l
+  run : (first last less : ℕ) (rest : Option ℕ) → (first ≤ tag → tag ≤ last → (tag_of (tag - less) ≡ tag) × (tag - less < slots))
+      → (rest ≡ Some k → Back) → cond (leb first tag && leb tag last) (Some (tag - less)) rest ≡ Some k → Back
+  run first last less rest t next h = go (leb first tag) (leb tag last) refl refl h
+    where
+      go : (a b : Bool) → leb first tag ≡ a → leb tag last ≡ b → cond (a && b) (Some (tag - less)) rest ≡ Some k → Back
+      go true true p q h =
+          let same : tag - less ≡ k = cc in
+          let found = t (leb-true first tag p) (leb-true tag last q) in
+          (ap tag_of (sym same) ∙ found.0, omega arith)
+      go true false p q h = next h
+      go false b p q h = next h
 
-pub only : (a b : ℕ) → slot_of a < slots → slot_of a ≡ slot_of b → a ≡ b
-only a b l h = sym (back a l) ∙ ap tag_of h ∙ back b (omega arith)
+  nothing : None ≡ Some k → Back
+  nothing h = let z : ◌≡◌ {A = ℕ} 0 1 = cc in absurd (omega arith)
+
+  pub back : slot_of tag ≡ Some k → Back
+  unfolding slot_of tag_of
+  back =
+      run 1000 1055 1000 _ (λ p q. (low (tag - 1000) (omega arith) ∙ omega arith, omega arith))
+      (run 1080 1132 1024 _ (λ p q. (high (tag - 1024) (omega arith) (omega arith) ∙ omega arith, omega arith))
+      (one 1064 109 _ refl (omega arith)
+      (one 20001 110 _ refl (omega arith)
+      (one 20002 111 _ refl (omega arith)
+      (one 62 112 _ refl (omega arith)
+      (one 63 113 _ refl (omega arith)
+      (one 100 114 None refl (omega arith) nothing)))))))
+
+pub only : (a b k : ℕ) → slot_of a ≡ Some k → slot_of b ≡ Some k → a ≡ b
+only a b k p q = sym (back a k p).0 ∙ (back b k q).0

@@ -1,22 +1,13 @@
--- Laws of `hex_digit` and `hex_of`: low_digit, high_digit; of the loop of `hex`: turn, ends; of its answer: within;
--- of a line of sixteen bytes: line_of_sixteen.
-use Prim.Native.Nat.{ℕ, suc, ◌+◌, ◌*◌, ◌-◌, ◌/◌, ◌%◌, ◌≤◌, ◌<◌, min}
+-- Laws of `hex_of`; of the loop of `hex`: turn, ends; of its answer: within; of a line of sixteen bytes: line_of_sixteen.
+use Prim.Native.Nat.{ℕ, suc, ◌+◌, ◌*◌, ◌/◌, ◌%◌, ◌≤◌, ◌<◌, min}
 use mathlib.Core.Path.{◌≡◌, refl, ap, ◌∙◌}
 use mathlib.Core.List.{List, [], ◌∷◌, ◌++◌, append_assoc}
 use lib.ListN.{length, take, drop, get_or, set, replicate, length-append, length-take}
 use lib.Seq.{take-suc, take_all, drop-cons, set_at}
+use Rattle.std.proofs.Common.{get_or-take}
 use native.Mathlib.Numerals.{add-one}
 use native.Mathlib.Omega.{arith}
-use borrow.Author.Tests.{lt-ltb, le-ltb}
 use Rattle.text.specs.Hex.{hex_digit, hex_of, hex_line, shown, Spelled}
-
-pub low_digit : (n : ℕ) → n < 10 → 48 + n ≡ hex_digit n
-unfolding hex_digit
-low_digit n h = rw (lt-ltb n 10 h)
-
-pub high_digit : (n : ℕ) → 10 ≤ n → 97 + (n - 10) ≡ hex_digit n
-unfolding hex_digit
-high_digit n h = rw (le-ltb n 10 h)
 
 length_hex_of : (bs : List ℕ) → length (hex_of bs) ≡ 2 * length bs
 unfolding hex_of
@@ -49,19 +40,28 @@ hex_of_take_suc s i h = rw (add-one, take-suc s i 0 h) (hex_of_append (take i s)
 -- the loop of `hex` after i bytes, of the n that fit
 module _ (src before : List ℕ) (n i : ℕ) (fit : n ≡ min (length src) (length before / 2))
     {out : List ℕ} (inv : out ≡ hex_of (take i src) ++ drop (2 * i) before) where
-  pub turn : i < n → {x y : ℕ} → x ≡ hex_digit (get_or src i 0 / 16) → y ≡ hex_digit (get_or src i 0 % 16)
+  shown_length : length (take n src) ≡ n
+  shown_length = length-take n src ∙ omega arith
+
+  pub turn : i < length (take n src) → {x y : ℕ} → x ≡ hex_digit (get_or (take n src) i 0 / 16)
+      → y ≡ hex_digit (get_or (take n src) i 0 % 16)
       → set (set out (2 * i) x) (2 * i + 1) y ≡ hex_of (take (i + 1) src) ++ drop (2 * (i + 1)) before
   turn l {x} {y} e f =
+      let m = shown_length in
       let p = hex_of (take i src) in
       let h : length p ≡ 2 * i = length_hex_of (take i src) ∙ simp length-take (omega arith) in
       let k : 2 * (i + 1) ≡ 2 * i + 2 = omega arith in
       let d = drop_two before (2 * i) (omega arith) in
       let s = hex_of_take_suc src i (omega arith) in
-      rw (inv, d, set_two p _ _ _ x y (2 * i) h, s, append_assoc, k, e, f)
+      let g = get_or-take n src i 0 (omega arith) in
+      rw (inv, d, set_two p _ _ _ x y (2 * i) h, s, append_assoc, k, rw g at e, rw g at f)
 
-  pub ends : i ≤ n → n ≤ i → Spelled src before (2 * n) out
+  pub ends : i ≤ length (take n src) → length (take n src) ≤ i → Spelled src before (2 * n) out
   unfolding shown
-  ends l g = let e : i ≡ n = omega arith in record { count = ap (λ (k : ℕ). 2 * k) fit; buffer = rw (← fit, ← e) inv }
+  ends l g =
+      let m = shown_length in
+      let e : i ≡ n = omega arith in
+      record { count = ap (λ (k : ℕ). 2 * k) fit; buffer = rw (← fit, ← e) inv }
 
 -- the answer counts bytes of the buffer
 pub within : (src before : List ℕ) {written : ℕ} {after : List ℕ} → Spelled src before written after → written ≤ length after

@@ -1,12 +1,13 @@
 -- Laws of the ways through `digits`: one_place, one_digit, last_fits, last_place_lem, last_digit; through `word`: word_fits,
--- end_place, ended; through `line`: eleven, no_room, starts, turn, last_turn, spent; of its answer: within.
+-- end_place, ended; through `line`: eleven, no_room, empty, turn, ended_line; of its answer: within.
 use Prim.Native.Nat.{ℕ, ◌+◌, ◌*◌, ◌/◌, ◌%◌, ◌≤◌, ◌<◌}
-use mathlib.Core.Path.{◌≡◌, refl, ◌∙◌}
+use mathlib.Core.Path.{◌≡◌, refl, ap, ◌∙◌}
 use mathlib.Core.List.{List, [], ◌∷◌, ◌++◌, append_assoc}
 use mathlib.Core.Bool.{Bool, true, false, cond}
 use lib.Dec.{leb}
 use lib.ListN.{length, drop, get_or, set, length-append, drop_of_length-le}
 use lib.Seq.{drop-cons}
+use Rattle.std.proofs.lemmas.List.{get_or_append_left, get_or_push}
 use native.Mathlib.Numerals.{add-one}
 use native.Mathlib.Omega.{arith}
 use borrow.Author.Tests.{le-leb, lt-leb, leb-true}
@@ -76,8 +77,10 @@ pub no_room : (ns s : List ℕ) → length s / 11 < length ns → Put s 0 (line_
 unfolding line_for
 no_room ns s h = rw (lt-leb (length ns) (length s / 11) h) (put_none s 0)
 
-pub starts : (ns s : List ℕ) → Put s 0 (line_of ns) (0 + length (line_of (drop 0 ns))) (put_at s 0 (line_of (drop 0 ns)))
-starts ns s = record { place = refl; buffer = refl }
+pub empty : (ns s : List ℕ) → length ns ≡ 0 → Put s 0 (line_for ns s) 0 s
+unfolding line_for line_of
+empty [] s h = rw (le-leb 0 (length s / 11) (omega arith)) (put_none s 0)
+empty (n ∷ ns) s h = absurd (omega arith)
 
 -- after i numbers: what is left of the line, put behind them, makes the whole
 module _ (ns before out : List ℕ) (at i : ℕ)
@@ -98,22 +101,38 @@ module _ (ns before out : List ℕ) (at i : ℕ)
           buffer = rw (p.buffer, p.place, put_put out at w v a, ← q) inv.buffer;
         }
 
-    pub turn : i + 1 < length ns
-        → {next : ℕ} {t : List ℕ} → Put out at (numeral_of (get_or ns i 0) ++ 32 ∷ []) next t
-        → Put before 0 (line_of ns) (next + length (line_of (drop (i + 1) ns))) (put_at t next (line_of (drop (i + 1) ns)))
-    turn k = step 32 (not_last ns (i + 1) k)
-
-    pub last_turn : length ns ≤ i + 1
-        → {next : ℕ} {t : List ℕ} → Put out at (numeral_of (get_or ns i 0) ++ 10 ∷ []) next t
-        → Put before 0 (line_of ns) (next + length (line_of (drop (i + 1) ns))) (put_at t next (line_of (drop (i + 1) ns)))
-    last_turn k = step 10 (is_last ns (i + 1) k)
-
-  pub spent : length ns ≤ i → length ns ≤ length before / 11 → Put before 0 (line_for ns before) at out
+  finished : length ns ≤ i → length ns ≤ length before / 11 → Put before 0 (line_for ns before) at out
   unfolding line_for line_of
-  spent l h =
+  finished l h =
       let e = rw (drop_of_length-le ns l) at inv in
       rw (le-leb (length ns) (length before / 11) h)
       (record { place = omega (arith, e.place); buffer = (put_none out at).buffer ∙ e.buffer })
+
+-- the numbers before the last, and the last
+module _ (ns before out : List ℕ) (at i : ℕ)
+    (inv : Put before 0 (line_of ns) (at + length (line_of (drop i ns))) (put_at out at (line_of (drop i ns))))
+    (front : List ℕ) (last : ℕ) (cut : ns ≡ front ++ last ∷ []) (m : at ≤ 11 * i) (same : length out ≡ length before)
+    (room : length ns ≤ length before / 11) where
+  count : length ns ≡ length front + 1
+  count = ap length cut ∙ simp length-append
+
+  pub turn : i < length front
+      → {next : ℕ} {t : List ℕ} → Put out at (numeral_of (get_or front i 0) ++ 32 ∷ []) next t
+      → Put before 0 (line_of ns) (next + length (line_of (drop (i + 1) ns))) (put_at t next (line_of (drop (i + 1) ns)))
+  turn l p =
+      let c = count in
+      let e : get_or ns i 0 ≡ get_or front i 0 = rw cut (get_or_append_left front (last ∷ []) 0 i l) in
+      step ns before out at i inv (omega arith) m same room 32 (not_last ns (i + 1) (omega arith)) (rw (← e) at p)
+
+  pub ended_line : length front ≤ i → i ≤ length front
+      → {next : ℕ} {t : List ℕ} → Put out at (numeral_of last ++ 10 ∷ []) next t → Put before 0 (line_for ns before) next t
+  ended_line l k {next} {t} p =
+      let c = count in
+      let n : i ≡ length front = omega arith in
+      let e : get_or ns i 0 ≡ last = rw (cut, n) (get_or_push front last 0 (length front) refl) in
+      finished ns before t next (i + 1)
+      (step ns before out at i inv (omega arith) m same room 10 (is_last ns (i + 1) (omega arith)) (rw (← e) at p))
+      (omega arith) room
 
 length_line_le : (ns : List ℕ) → length (line_of ns) ≤ 11 * length ns
 unfolding line_of

@@ -7,7 +7,7 @@ use lib.Dec.{ltb}
 use lib.ListN.{length, length-append}
 use native.Mathlib.Omega.{arith}
 use borrow.Author.Tests.{le-leb, ltb-true}
-use Rattle.text.specs.declared.Parsed.TheVariants.{Number}
+use Rattle.std.proofs.Common.{Some}
 use Rattle.text.specs.Decimal.{all_digits, value_after, decimal_after, decimal_of}
 use Rattle.text.specs.Lines.{digits_of, numeral_of}
 use Rattle.text.proofs.DecimalLaws.{digit, starts}
@@ -50,7 +50,7 @@ some_digit k n = go (ltb n 10)
     go true h = omega arith
     go false h = omega (arith, length-append (digits_of k (n / 10)) ((48 + n % 10) ∷ []))
 
-pub read_back : (n : ℕ) → n ≤ 0xFFFFFFFF → decimal_of (numeral_of n) ≡ Number n
+pub read_back : (n : ℕ) → n ≤ 0xFFFFFFFF → decimal_of (numeral_of n) ≡ Some n
 unfolding numeral_of decimal_after
 read_back n h =
     starts (digits_of 10 n) (some_digit 9 n)

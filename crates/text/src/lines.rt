@@ -3,6 +3,7 @@ ghost use Rattle.std.specs.Prelude.{◌≡◌, ◌+◌, ◌≤◌, [], ◌∷◌
 ghost use Rattle.text.specs.Lines.{numeral_of, line_for, Put};
 
 // Writes the decimal digits of a number from `at` on, and answers the place behind them.
+#[tactic(auto, using(crate::proofs::LineLaws::last_place_lem))]
 fn digits(n: u32, out: &mut [u8], at: usize) -> usize
     requires { at + length (numeral_of n) ≤ length out.old }
     ensures { Put out.old at (numeral_of n) result out.new }
@@ -17,6 +18,7 @@ fn digits(n: u32, out: &mut [u8], at: usize) -> usize
 }
 
 // Writes a number and the byte behind it.
+#[tactic(auto, using(crate::proofs::LineLaws::end_place))]
 fn word(n: u32, end: u8, out: &mut [u8], at: usize) -> usize
     requires { at + 11 ≤ length out.old }
     ensures { Put out.old at (numeral_of n ++ end ∷ []) result out.new }
@@ -31,20 +33,15 @@ fn word(n: u32, end: u8, out: &mut [u8], at: usize) -> usize
 pub fn line(numbers: &[u32], out: &mut [u8]) -> usize
     ensures { Put out.old 0 (line_for numbers.now out.old) result out.new }
 {
-    let count = numbers.len();
-    if out.len() / 11 < count {
+    if out.len() / 11 < numbers.len() {
         return 0;
     }
+    let Some((last, front)) = numbers.split_last() else {
+        return 0;
+    };
     let mut at = 0;
-    let mut i = 0;
-    while i < count {
-        let n = numbers[i];
-        i += 1;
-        if i < count {
-            at = word(n, b' ', out, at);
-        } else {
-            at = word(n, b'\n', out, at);
-        }
+    for n in front {
+        at = word(*n, b' ', out, at);
     }
-    at
+    word(*last, b'\n', out, at)
 }

@@ -4,27 +4,27 @@
 
 use std::io;
 
+// The messages of the suite.
+const MESSAGES: [&str; 7] = [
+    "",
+    "a",
+    "abc",
+    "message digest",
+    "abcdefghijklmnopqrstuvwxyz",
+    "ABCDEFGHIJKLMNOPQRSTUVWXYZabcdefghijklmnopqrstuvwxyz0123456789",
+    "12345678901234567890123456789012345678901234567890123456789012345678901234567890",
+];
+
 // Writes a message and its digest.
-fn put(rt: &impl Print, message: &[u8]) -> io::Result<()> {
-    rt.write_all(b"MD5 (\"")?;
-    rt.write_all(message)?;
-    rt.write_all(b"\") = ")?;
-    rt.write_all(&text::hex_line(message_digest::md5(message)))
+fn put(rt: &impl Print, message: &str) -> io::Result<()> {
+    print!(rt; "MD5 (\"{message}\") = ")?;
+    rt.write_all(&text::hex_line(message_digest::md5(message.as_bytes())))
 }
 
 fn main(rt: HostRuntime) -> io::Result<()> {
-    rt.write_all(b"MD5 test suite:\n")?;
-    put(&rt, b"")?;
-    put(&rt, b"a")?;
-    put(&rt, b"abc")?;
-    put(&rt, b"message digest")?;
-    put(&rt, b"abcdefghijklmnopqrstuvwxyz")?;
-    put(
-        &rt,
-        b"ABCDEFGHIJKLMNOPQRSTUVWXYZabcdefghijklmnopqrstuvwxyz0123456789",
-    )?;
-    put(
-        &rt,
-        b"12345678901234567890123456789012345678901234567890123456789012345678901234567890",
-    )
+    println!(rt; "MD5 test suite:")?;
+    for message in MESSAGES {
+        put(&rt, message)?;
+    }
+    Ok(())
 }

@@ -2,9 +2,7 @@
 use Rattle.std.specs.Prelude.{ℕ, List, drop}
 use Rattle.be.specs.Bytes.{same_bytes}
 use Rattle.format.specs.declared.section.Section.{Section}
-use Rattle.format.specs.declared.verdict.Verdict.{Verdict}
-use Rattle.format.specs.declared.verdict.Verdict.TheVariants.{Pass}
-use Rattle.format.specs.Verdicts.{check}
+use Rattle.format.specs.Verdicts.{check, Verdict, pass}
 use Rattle.lookups.specs.Within.{bytes_in}
 use Rattle.message_digest.specs.Md5.{digest}
 
@@ -18,4 +16,4 @@ from_header s header = drop header.start.0 s
 
 -- 27 | the signature's 1004 isn't the MD5 of the bytes from H to the end | 1004
 unfoldable pub digest_check : List ℕ → Section → Section → Verdict
-digest_check s signature header = check (same_bytes (stated_in s signature) (digest (from_header s header))) 27 1004 Pass
+digest_check s signature header = check (same_bytes (stated_in s signature) (digest (from_header s header))) 27 1004 pass

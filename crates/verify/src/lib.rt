@@ -1,11 +1,11 @@
 // The digest of a package, check 27; and that of any bytes, put into a lent buffer.
-#![tactic(auto)]
+#![tactic(auto, unfolding(format::specs::Verdicts::check, crate::specs::Digests::digest_check, crate::specs::Lent::digest_answer, crate::specs::Lent::digest_after))]
 
 ghost use Rattle.std.specs.Prelude.{◌≡◌};
 ghost use Rattle.verify.specs.Digests.{from_header, digest_check};
 ghost use Rattle.verify.specs.Lent.{DigestPut};
 
-use format::{Answer, Section, Verdict};
+use format::{Answer, Refusal, Section, Verdict};
 
 // The tag and the type of the signature's digest, bin, and its size.
 #[derive(Drop)]
@@ -34,9 +34,9 @@ pub fn check(pkg: &[u8], signature: Section, header: Section) -> Verdict
     let stated = lookups::find_in(pkg, signature, DigestEntry::TAG, DigestEntry::TYPE);
     let found = message_digest::md5(from_header(pkg, header));
     if be::same(stated, &found) {
-        return Verdict::Pass;
+        return Ok(());
     }
-    Verdict::Fail(27, DigestEntry::TAG)
+    Err(Refusal::new(27, DigestEntry::TAG))
 }
 
 // Puts the digest of some bytes at the front of a buffer. Success is 0 with 16, and nothing behind the 16 bytes changes; a
@@ -45,9 +45,9 @@ pub fn put_digest(bytes: &[u8], out: &mut [u8]) -> Answer
     ensures { DigestPut bytes.now out.old result out.new }
 {
     if out.len() < DigestEntry::SIZE as usize {
-        return Answer::Refused(34, DigestEntry::SIZE);
+        return Err(Refusal::new(34, DigestEntry::SIZE));
     }
     let digest = message_digest::md5(bytes);
     put::bytes(out, 0, &digest);
-    Answer::Done(DigestEntry::SIZE)
+    Ok(DigestEntry::SIZE)
 }

@@ -1,92 +1,86 @@
 -- Runs are in order by their keys (by_key, run_order), so texts are by their runs (text_order); what the request asks
--- of a total order follows from an order's four laws (total): texts_in_order. A newer text is one that the other is older than:
+-- of a total order follows from its laws (total): texts_in_order. A newer text is one that the other is older than:
 -- newer_exactly.
-use Prim.Native.Nat.{ℕ}
-use mathlib.Core.Path.{◌≡◌, refl, sym, ap, ◌∙◌}
-use mathlib.Core.Logic.{◌⊎◌, inl, inr}
-use mathlib.Core.List.{List, [], ◌∷◌}
-use mathlib.Core.Bool.{Bool, true, false, cond}
-use lib.Dec.{eqb}
-use native.Mathlib.Omega.{arith}
-use Rattle.runs.specs.declared.Order.{Order}
-use Rattle.runs.specs.declared.Order.TheVariants.{Older, Same, Newer}
-use Rattle.runs.specs.Orders.{or_else, turned, by_number, by_list, IsOrder}
-use Rattle.runs.specs.Runs.{digit, Run, run, value, by_run}
-use Rattle.runs.proofs.OrderLaws.{Compared, is_less, is_same, is_more, compared, numbers, lists, through, alike_right}
+use Rattle.std.proofs.Common.{◌≡◌, ℕ, ◌⊎◌, List, [], ◌∷◌, Bool, true, false, cond, Ordering, Less, Equal, Greater, nat_cmp}
+use Rattle.std.proofs.Common.{refl, sym, ap, ◌∙◌, inl, inr, arith}
+use Rattle.std.proofs.lemmas.Cmp.{nat_list_cmp_total, lists_total, on_total, tied_itself, tied_back, alike_right}
+use Rattle.std.specs.Cmp.{IsTotalOrder}
+use Rattle.std.specs.Cmp.Lexicographic.{slice_cmp}
+use Rattle.std.specs.Ordering.{ordering_then, ordering_reverse}
+use Rattle.runs.specs.Runs.{rank, same_kind, digit, Run, run, value, by_run}
+use Rattle.runs.proofs.OrderLaws.{Compared, is_less, is_same, is_more, compared}
 use Rattle.version.specs.Version.{runs, by_text}
 use Rattle.version.specs.Theorems.{TotalOrder, TextsInOrder, NewerExactly}
 use Rattle.version.proofs.OlderTheorems.{older_exactly}
 
--- a comparison that answers as an order does is one
-alike_order : {A : Type 0} (by to : A → A → Order) → ((x y : A) → by x y ≡ to x y) → IsOrder to → IsOrder by
-alike_order by to e order = record {
-  same = λ x. e x x ∙ order.same x;
-  back = λ x y. e y x ∙ order.back x y ∙ ap turned (sym (e x y));
-  chain = λ x y z h k. e x z ∙ order.chain x y z (sym (e x y) ∙ h) (sym (e y z) ∙ k);
-  alike = λ x y z h. e x z ∙ order.alike x y z (sym (e x y) ∙ h) ∙ sym (e y z);
+-- a comparison that answers as a total order does is one
+alike_order : {A : Type 0} {by to : A → A → Ordering} → ((x y : A) → by x y ≡ to x y) → IsTotalOrder to → IsTotalOrder by
+alike_order {by} {to} e order = record {
+  antisymm = λ x y. e x y ∙ order.antisymm x y ∙ ap ordering_reverse (sym (e y x));
+  trans = λ x y z h k. e x z ∙ order.trans x y z (sym (e x y) ∙ h) (sym (e y z) ∙ k);
+  congr = λ x y z h. e x z ∙ order.congr x y z (sym (e x y) ∙ h) ∙ sym (e y z);
 }
 
--- a run as numbers that compare one by one: its kind, then the value of digits or the bytes of letters
+-- a run as numbers that compare one by one: its kind's rank, then the value of digits or the bytes of letters
 key : Run → List ℕ
-key (run k bs) = k ∷ cond (eqb k digit) (value bs ∷ []) bs
+key (run k bs) = rank k ∷ cond (same_kind k digit) (value bs ∷ []) bs
 
-else_last : (o : Order) → o ≡ or_else o Same
-unfolding or_else
-else_last Older = refl
-else_last Same = refl
-else_last Newer = refl
+then_last : (o : Ordering) → o ≡ ordering_then o Equal
+then_last Less = refl
+then_last Equal = refl
+then_last Greater = refl
 
-by_key : (r q : Run) → by_run r q ≡ by_list by_number (key r) (key q)
-unfolding by_run by_list key or_else
-by_key (run k bs) (run l cs) = go (compared k l)
+by_key : (r q : Run) → by_run r q ≡ slice_cmp nat_cmp (key r) (key q)
+unfolding by_run key
+by_key (run k bs) (run l cs) = go (compared (rank k) (rank l))
   where
-    one : (t : Bool) → cond t (by_number (value bs) (value cs)) (by_list by_number bs cs)
-        ≡ by_list by_number (cond t (value bs ∷ []) bs) (cond t (value cs ∷ []) cs)
-    one true = else_last (by_number (value bs) (value cs))
+    one : (t : Bool) → cond t (nat_cmp (value bs) (value cs)) (slice_cmp nat_cmp bs cs)
+        ≡ slice_cmp nat_cmp (cond t (value bs ∷ []) bs) (cond t (value cs ∷ []) cs)
+    one true = then_last (nat_cmp (value bs) (value cs))
     one false = refl
 
-    go : {o : Order} → Compared k l o
-        → or_else o (cond (eqb k 2) (by_number (value bs) (value cs)) (by_list by_number bs cs))
-        ≡ or_else o (by_list by_number (cond (eqb k 2) (value bs ∷ []) bs) (cond (eqb l 2) (value cs ∷ []) cs))
+    go : {o : Ordering} → Compared (rank k) (rank l) o
+        → ordering_then o (cond (same_kind k digit) (nat_cmp (value bs) (value cs)) (slice_cmp nat_cmp bs cs))
+        ≡ ordering_then o
+        (slice_cmp nat_cmp (cond (same_kind k digit) (value bs ∷ []) bs) (cond (same_kind l digit) (value cs ∷ []) cs))
     go (is_less h) = refl
-    go (is_same h) = rw (← h) (one (eqb k 2))
+    go (is_same h) = rw (← h) (one (same_kind k digit))
     go (is_more h) = refl
 
-run_order : IsOrder by_run
-run_order = alike_order by_run _ by_key (through key (by_list by_number) (lists by_number numbers))
+run_order : IsTotalOrder by_run
+run_order = alike_order by_key (on_total key nat_list_cmp_total)
 
-text_order : IsOrder by_text
+text_order : IsTotalOrder by_text
 unfolding by_text
-text_order = through runs (by_list by_run) (lists by_run run_order)
+text_order = on_total runs (lists_total run_order)
 
 -- an answer is one of the three, and no two
-three : (o : Order) → (o ≡ Older) ⊎ ((o ≡ Same) ⊎ (o ≡ Newer))
-three Older = inl refl
-three Same = inr (inl refl)
-three Newer = inr (inr refl)
+three : (o : Ordering) → (o ≡ Less) ⊎ ((o ≡ Equal) ⊎ (o ≡ Greater))
+three Less = inl refl
+three Equal = inr (inl refl)
+three Greater = inr (inr refl)
 
-not_same : (o : Order) → o ≡ Older → o ≡ Same → ⊥
-not_same o h k = let z : ◌≡◌ {A = ℕ} 0 1 = cc in omega arith
+not_equal : (o : Ordering) → o ≡ Less → o ≡ Equal → ⊥
+not_equal o h k = grind arith
 
-not_newer : (o : Order) → o ≡ Older → o ≡ Newer → ⊥
-not_newer o h k = let z : ◌≡◌ {A = ℕ} 0 1 = cc in omega arith
+not_greater : (o : Ordering) → o ≡ Less → o ≡ Greater → ⊥
+not_greater o h k = grind arith
 
-not_both : (o : Order) → o ≡ Same → o ≡ Newer → ⊥
-not_both o h k = let z : ◌≡◌ {A = ℕ} 0 1 = cc in omega arith
+not_both : (o : Ordering) → o ≡ Equal → o ≡ Greater → ⊥
+not_both o h k = grind arith
 
-total : {A : Type 0} (by : A → A → Order) → IsOrder by → TotalOrder by
-unfolding turned
+total : {A : Type 0} (by : A → A → Ordering) → IsTotalOrder by → TotalOrder by
 total by order = record {
-  reflexive = order.same;
-  symmetric = λ x y h. order.back x y ∙ ap turned h;
-  transitive = λ x y z h k. order.alike x y z h ∙ k;
-  converse = λ x y. (λ h. order.back x y ∙ ap turned h, λ h. order.back y x ∙ ap turned h);
-  chain = order.chain;
-  left = order.alike;
-  right = alike_right by order;
+  reflexive = tied_itself order;
+  symmetric = tied_back order;
+  transitive = λ x y z h k. order.congr x y z h ∙ k;
+  converse = λ x y. (λ h. order.antisymm y x ∙ ap ordering_reverse h, λ h. order.antisymm x y ∙ ap ordering_reverse h);
+  chain = order.trans;
+  left = order.congr;
+  right = λ x y z h. alike_right order y z x h;
   one = λ x y. three (by x y);
-  not_same = λ x y. not_same (by x y);
-  not_newer = λ x y. not_newer (by x y);
+  not_equal = λ x y. not_equal (by x y);
+  not_greater = λ x y. not_greater (by x y);
   not_both = λ x y. not_both (by x y);
 }
 

@@ -5,11 +5,11 @@ use mathlib.Core.Path.{◌≡◌, refl, sym, ap, ◌∙◌}
 use mathlib.Core.Logic.{◌↔◌}
 use mathlib.Core.List.{List, [], ◌∷◌, ◌++◌, append-nil}
 use mathlib.Core.Bool.{Bool, true, false, cond}
-use lib.Dec.{eqb}
 use lib.ListN.{length, get_or}
-use borrow.Author.Tests.{eq-eqb, eqb-true, eqb-false}
 use native.Mathlib.Omega.{arith}
-use Rattle.runs.specs.Runs.{separator, letter, digit, kind, Run, run, value_from}
+use Rattle.runs.specs.declared.Kind.{Kind}
+use Rattle.runs.specs.Runs.{separator, letter, digit, same_kind, kind, Run, run, value_from}
+use Rattle.runs.proofs.KindLaws.{same_yes, kind_same, kind_other}
 use Rattle.version.specs.Version.{kind_of, longer, runs}
 use Rattle.version.specs.Theorems.{Digit, Letter, Separator, Every, Longest, Parted, RunsExactly, ValueByPlaces}
 use Rattle.version.proofs.RunLaws.{runs_more, runs_new}
@@ -19,7 +19,7 @@ use Rattle.version.proofs.SortLaws.{every_none, every_cons, every_tail, every_ma
 -- a text as its longest runs, by the kinds of bytes
 data Kinds : List ℕ → List Run → Type 0 where
   none : (sep : List ℕ) → Every (Of separator) sep → Kinds sep []
-  part : {k : ℕ} (sep bs s : List ℕ) {rs : List Run} → Solid k → Every (Of separator) sep → Longest (Of k) bs s
+  part : {k : Kind} (sep bs s : List ℕ) {rs : List Run} → Solid k → Every (Of separator) sep → Longest (Of k) bs s
       → Kinds s rs → Kinds (sep ++ (bs ++ s)) (run k bs ∷ rs)
 
 separating : (sep : List ℕ) → Every Separator sep → Every (Of separator) sep
@@ -48,7 +48,7 @@ parted (part sep bs s Solid.letters h l p) =
 -- separators in front are passed over
 runs_separator : (b : ℕ) (s : List ℕ) → kind b ≡ separator → runs (b ∷ s) ≡ runs s
 unfolding runs
-runs_separator b s h = rw (eq-eqb (kind b) separator h)
+runs_separator b s h = rw (same_yes (kind b) separator h)
 
 runs_separators : (sep s : List ℕ) → Every (Of separator) sep → runs (sep ++ s) ≡ runs s
 runs_separators [] s h = refl
@@ -56,19 +56,19 @@ runs_separators (b ∷ sep) s h =
     runs_separator b (sep ++ s) (h 0 (omega arith)) ∙ runs_separators sep s (every_tail (Of separator) b sep h)
 
 -- behind a run of a kind
-ends_other : (k : ℕ) (s : List ℕ) → Solid k → (1 ≤ length s → Of k (get_or s 0 0) → ⊥) → kind_of s ≡ k → ⊥
+ends_other : (k : Kind) (s : List ℕ) → Solid k → (1 ≤ length s → Of k (get_or s 0 0) → ⊥) → kind_of s ≡ k → ⊥
 unfolding kind_of
 ends_other k [] n h e = solid_ne n (sym e)
 ends_other k (b ∷ s) n h e = h (omega arith) e
 
 -- a longest run in front is the first run
-runs_longest : (k : ℕ) (bs s : List ℕ) → Solid k → Longest (Of k) bs s → runs (bs ++ s) ≡ run k bs ∷ runs s
+runs_longest : (k : Kind) (bs s : List ℕ) → Solid k → Longest (Of k) bs s → runs (bs ++ s) ≡ run k bs ∷ runs s
 unfolding kind_of longer
 runs_longest k [] s n l = absurd (omega arith)
 runs_longest k (b ∷ []) s n l =
     let e : kind b ≡ k = l.all 0 (omega arith) in
     runs_new b s (λ z. solid_ne n (sym e ∙ z)) (λ z. ends_other k s n l.ends (z ∙ e))
-    ∙ ap (λ (i : ℕ). run i (b ∷ []) ∷ runs s) e
+    ∙ ap (λ (i : Kind). run i (b ∷ []) ∷ runs s) e
 runs_longest k (b ∷ c ∷ bs) s n l =
     let e : kind b ≡ k = l.all 0 (omega arith) in
     runs_more b (c ∷ bs ++ s) (λ z. solid_ne n (sym e ∙ z)) (l.all 1 (omega arith) ∙ sym e)
@@ -87,7 +87,7 @@ cons_separator : (b : ℕ) {s : List ℕ} {rs : List Run} → kind b ≡ separat
 cons_separator b e (none sep h) = none (b ∷ sep) (every_cons (Of separator) b sep e h)
 cons_separator b e (part sep bs s n h l p) = part (b ∷ sep) bs s n (every_cons (Of separator) b sep e h) l p
 
-starts_other : (k : ℕ) (s : List ℕ) → (kind_of s ≡ k → ⊥) → 1 ≤ length s → Of k (get_or s 0 0) → ⊥
+starts_other : (k : Kind) (s : List ℕ) → (kind_of s ≡ k → ⊥) → 1 ≤ length s → Of k (get_or s 0 0) → ⊥
 unfolding kind_of
 starts_other k [] h l e = omega arith
 starts_other k (b ∷ s) h l e = h e
@@ -122,13 +122,13 @@ cons_longer b n e (part (c ∷ sep) bs s m h l p) = absurd (n (sym e ∙ h 0 (om
 runs_kinds : (s : List ℕ) → Kinds s (runs s)
 unfolding runs
 runs_kinds [] = none [] (every_none (Of separator))
-runs_kinds (b ∷ s) = go (eqb (kind b) 0) (eqb (kind_of s) (kind b)) refl refl (runs_kinds s)
+runs_kinds (b ∷ s) = go (same_kind (kind b) separator) (same_kind (kind_of s) (kind b)) refl refl (runs_kinds s)
   where
-    go : (p q : Bool) → eqb (kind b) 0 ≡ p → eqb (kind_of s) (kind b) ≡ q → Kinds s (runs s)
+    go : (p q : Bool) → same_kind (kind b) separator ≡ p → same_kind (kind_of s) (kind b) ≡ q → Kinds s (runs s)
         → Kinds (b ∷ s) (cond p (runs s) (cond q (longer b (runs s)) (run (kind b) (b ∷ []) ∷ runs s)))
-    go true q e f r = cons_separator b (eqb-true _ _ e) r
-    go false true e f r = cons_longer b (eqb-false _ _ e) (eqb-true _ _ f) r
-    go false false e f r = cons_new b s (eqb-false _ _ e) (eqb-false _ _ f) r
+    go true q e f r = cons_separator b (kind_same _ _ e) r
+    go false true e f r = cons_longer b (kind_other _ _ e) (kind_same _ _ f) r
+    go false false e f r = cons_new b s (kind_other _ _ e) (kind_other _ _ f) r
 
 pub runs_exactly : RunsExactly
 runs_exactly s rs = (λ p. kinds_runs (kinds p), λ e. rw e (parted (runs_kinds s)))

@@ -9,6 +9,7 @@ use lib.Dec.{leb}
 use lib.ListN.{get_or}
 use borrow.Author.Tests.{leb-true, leb-false}
 use native.Mathlib.Omega.{arith}
+use Rattle.runs.specs.declared.Kind.{Kind}
 use Rattle.runs.specs.Runs.{separator, letter, digit, is_digit, is_letter, kind}
 use Rattle.version.specs.Theorems.{Digit, Letter, Separator, Every, Longest}
 
@@ -27,7 +28,7 @@ within low high b = go (leb low b) (leb b high) refl refl
     go false false h k = outside (λ w. omega (arith, leb-false low b h, w.0))
 
 -- a byte of each kind
-data Sort (b : ℕ) : ℕ → Type 0 where
+data Sort (b : ℕ) : Kind → Type 0 where
   of_digits : Digit b → Sort b digit
   of_letters : Letter b → Sort b letter
   of_separators : Separator b → Sort b separator
@@ -37,7 +38,7 @@ unfolding kind is_digit is_letter
 sort b = go (within 48 57 b) (within 65 90 b) (within 97 122 b)
   where
     go : {p q r : Bool} → Within 48 57 b p → Within 65 90 b q → Within 97 122 b r
-        → Sort b (cond p 2 (cond (q || r) 1 0))
+        → Sort b (cond p digit (cond (q || r) letter separator))
     go (inside h k) y z = of_digits (h, k)
     go (outside n) (inside h k) z = of_letters (inl (h, k))
     go (outside n) (outside m) (inside h k) = of_letters (inr (h, k))
@@ -48,49 +49,49 @@ apart b d (inl h) = omega arith
 apart b d (inr h) = omega arith
 
 -- the bytes of a kind
-abbrev pub Of : ℕ → ℕ → Type 0
+abbrev pub Of : Kind → ℕ → Type 0
 Of k b = kind b ≡ k
 
 pub digit_of : (b : ℕ) → Digit b ↔ Of digit b
 digit_of b = go (sort b)
   where
-    go : {k : ℕ} → Sort b k → Digit b ↔ (k ≡ digit)
+    go : {k : Kind} → Sort b k → Digit b ↔ (k ≡ digit)
     go (of_digits d) = (λ e. refl, λ e. d)
-    go (of_letters l) = (λ d. absurd (apart b d l), λ e. absurd (omega arith))
-    go (of_separators s) = (λ d. absurd (s.0 d), λ e. absurd (omega arith))
+    go (of_letters l) = (λ d. absurd (apart b d l), λ e. absurd (grind arith))
+    go (of_separators s) = (λ d. absurd (s.0 d), λ e. absurd (grind arith))
 
 pub letter_of : (b : ℕ) → Letter b ↔ Of letter b
 letter_of b = go (sort b)
   where
-    go : {k : ℕ} → Sort b k → Letter b ↔ (k ≡ letter)
-    go (of_digits d) = (λ l. absurd (apart b d l), λ e. absurd (omega arith))
+    go : {k : Kind} → Sort b k → Letter b ↔ (k ≡ letter)
+    go (of_digits d) = (λ l. absurd (apart b d l), λ e. absurd (grind arith))
     go (of_letters l) = (λ e. refl, λ e. l)
-    go (of_separators s) = (λ l. absurd (s.1 l), λ e. absurd (omega arith))
+    go (of_separators s) = (λ l. absurd (s.1 l), λ e. absurd (grind arith))
 
 pub separator_of : (b : ℕ) → Separator b ↔ Of separator b
 separator_of b = go (sort b)
   where
-    go : {k : ℕ} → Sort b k → Separator b ↔ (k ≡ separator)
-    go (of_digits d) = (λ s. absurd (s.0 d), λ e. absurd (omega arith))
-    go (of_letters l) = (λ s. absurd (s.1 l), λ e. absurd (omega arith))
+    go : {k : Kind} → Sort b k → Separator b ↔ (k ≡ separator)
+    go (of_digits d) = (λ s. absurd (s.0 d), λ e. absurd (grind arith))
+    go (of_letters l) = (λ s. absurd (s.1 l), λ e. absurd (grind arith))
     go (of_separators s) = (λ e. refl, λ e. s)
 
 -- the two kinds of runs
-pub data Solid : ℕ → Type 0 where
+pub data Solid : Kind → Type 0 where
   digits : Solid digit
   letters : Solid letter
 
 pub solid : (b : ℕ) → (kind b ≡ separator → ⊥) → Solid (kind b)
 solid b = go (sort b)
   where
-    go : {k : ℕ} → Sort b k → (k ≡ separator → ⊥) → Solid k
+    go : {k : Kind} → Sort b k → (k ≡ separator → ⊥) → Solid k
     go (of_digits d) n = digits
     go (of_letters l) n = letters
     go (of_separators s) n = absurd (n refl)
 
-pub solid_ne : {k : ℕ} → Solid k → k ≡ separator → ⊥
-solid_ne digits e = omega arith
-solid_ne letters e = omega arith
+pub solid_ne : {k : Kind} → Solid k → k ≡ separator → ⊥
+solid_ne digits e = grind arith
+solid_ne letters e = grind arith
 
 -- every byte of a list
 pub every_none : (P : ℕ → Type 0) → Every P []

@@ -1,193 +1,112 @@
--- A turn of the comparison of two texts, in the shape of what the code knows: where a step over separators ends (skip_stop,
--- skip_over), the kind at a place, and what the next runs decide (text_older to run_same).
-use Prim.Native.Nat.{ℕ, ◌+◌, ◌-◌, ◌≤◌, ◌<◌}
-use mathlib.Core.Path.{◌≡◌, refl, sym, ap, ap₂, ◌∙◌}
-use mathlib.Core.List.{List, [], ◌∷◌}
-use mathlib.Core.Bool.{Bool, true, false, cond}
-use lib.ListN.{length, take, drop, get_or, length-drop, drop_of_length-le}
-use lib.Seq.{drop-drop}
-use native.Mathlib.Omega.{arith}
-use Rattle.runs.specs.declared.Order.{Order}
-use Rattle.runs.specs.declared.Order.TheVariants.{Older, Same, Newer}
-use Rattle.runs.specs.declared.Met.{Met}
-use Rattle.runs.specs.declared.Met.TheVariants as met-is
-use Rattle.runs.specs.Orders.{or_else, by_list}
-use Rattle.runs.specs.Runs.{separator, letter, digit, is_digit, is_letter, kind, of_kind, front, front_run, by_run, met_as, met}
-use Rattle.runs.proofs.OrderLaws.{less, more, else_same, else_older, else_newer}
-use Rattle.runs.proofs.FrontLaws.{next, part_rest, front_fits, front_stop, front_over}
+-- A turn of the comparison of two texts, in the shape of what the code knows: where a step over separators ends (skips), the
+-- kind in front (kind_here, kind_over), the ends of the runs in front (met_fits), and what the next runs decide
+-- (text_kinds to shorter).
+use Rattle.std.proofs.Common.{◌≡◌, ℕ, ◌-◌, ◌≤◌, ◌<◌, List, [], ◌∷◌, length, take, drop, get_or, Result, Ok, Err, IfOk}
+use Rattle.std.proofs.Common.{Ordering, Less, Equal, Greater, nat_cmp, refl, sym, ap, ap₂, ◌∙◌, arith, length-drop}
+use Rattle.std.proofs.lemmas.List.Sums.{prefix_len-le-length}
+use Rattle.std.specs.Cmp.Lexicographic.{slice_cmp}
+use Rattle.std.specs.List.{prefix_len}
+use Rattle.std.specs.Ordering.{ordering_then}
+use Rattle.runs.specs.declared.Kind.{Kind}
+use Rattle.runs.specs.Runs.{separator, rank, kind, of_kind, front_run, by_run, met_as, met}
+use Rattle.runs.proofs.OrderLaws.{then_equal, then_other}
+use Rattle.runs.proofs.FrontLaws.{part_rest}
 use Rattle.version.specs.Version.{kind_of, runs, by_text}
-use Rattle.version.specs.Steps.{Skips, shifted, met_at}
+use Rattle.version.specs.Steps.{Skips}
 use Rattle.version.proofs.RunLaws.{runs_skip, starts, both_run, both_end, differ, front_some}
 
--- a step over separators ends at p
-module _ (s : List ℕ) (i : ℕ) (h : i ≤ length s) {p : ℕ} (e : p ≡ i + front (of_kind separator) (drop i s)) where
-  skips : Skips s i p
-  skips =
-      let d : drop p s ≡ drop (front (of_kind 0) (drop i s)) (drop i s) = ap (λ (m : ℕ). drop m s) e ∙ sym (drop-drop _ i s) in
-      record {
-        fits = omega (arith, front_fits (of_kind 0) (drop i s), length-drop i s);
-        ahead = omega arith;
-        same = ap runs d ∙ runs_skip (drop i s);
-        starts = λ z. ap runs d ∙ starts (drop i s) (ap kind_of (sym d) ∙ z);
-      }
+-- the part of a text behind n bytes
+abbrev pub behind : ℕ → List ℕ → List ℕ
+behind n s = take (length s - n) (drop n s)
 
-module _ (s : List ℕ) (from i : ℕ) (h : from ≤ length s)
-    (inv : from + front (of_kind separator) (drop from s) ≡ i + front (of_kind separator) (drop i s)) where
-  pub skip_stop : i < length s → of_kind separator (get_or s i 0) ≡ false → Skips s from i
-  skip_stop l f = skips s from h (front_stop (of_kind separator) s i _ inv l f)
+-- a step over separators
+pub skips : (s : List ℕ) {n : ℕ} → n ≡ prefix_len (of_kind separator) s → Skips s (behind n s)
+skips s {n} e =
+    let d : behind n s ≡ drop (prefix_len (of_kind separator) s) s = part_rest s n ∙ ap (λ (m : ℕ). drop m s) e in
+    record {
+      fits = omega (arith, ap (length {A = ℕ}) d, length-drop (prefix_len (of_kind separator) s) s);
+      same = ap runs d ∙ runs_skip s;
+      starts = λ z. ap runs d ∙ starts s (ap kind_of (sym d) ∙ z);
+    }
 
-  pub skip_over : length s ≤ i → Skips s from i
-  skip_over l = skips s from h (front_over (of_kind separator) s i _ inv l)
-
--- the kind at a place
-pub kind_here : (s : List ℕ) (i : ℕ) {r : ℕ} → i < length s → r ≡ kind (get_or s i 0) → r ≡ kind_of (drop i s)
+-- the kind of the first byte
+pub kind_here : (s : List ℕ) {r : Kind} → 0 < length s → r ≡ kind (get_or s 0 0) → r ≡ kind_of s
 unfolding kind_of
-kind_here s i h e = rw (next s i h) e
+kind_here [] h e = absurd (omega arith)
+kind_here (b ∷ s) h e = e
 
-pub kind_over : (s : List ℕ) (i : ℕ) → length s ≤ i → 0 ≡ kind_of (drop i s)
+pub kind_over : (s : List ℕ) → length s ≤ 0 → separator ≡ kind_of s
 unfolding kind_of
-kind_over s i h = rw (drop_of_length-le s h)
+kind_over [] h = refl
+kind_over (b ∷ s) h = absurd (omega arith)
 
--- there are three kinds
-pub kind_most : (s : List ℕ) {k : ℕ} → k ≡ kind_of s → k ≤ 2
-unfolding kind_of kind
-kind_most [] e = omega arith
-kind_most (b ∷ s) {k} e = go (is_digit b) (is_letter b) e
+-- what an answer says of the order
+err_is : (o : Ordering) (m n : ℕ) {p : Ordering} → met_as o m n ≡ Err p → (o ≡ p) × (o ≡ Equal → ⊥)
+err_is Less m n h = (grind arith, λ e. grind arith)
+err_is Equal m n h = absurd (grind arith)
+err_is Greater m n h = (grind arith, λ e. grind arith)
+
+ok_is : (o : Ordering) (m n : ℕ) {a b : ℕ} → met_as o m n ≡ Ok (a, b) → (o ≡ Equal) × (m ≡ a) × (n ≡ b)
+ok_is Less m n h = absurd (grind arith)
+ok_is Equal m n h = (refl, grind arith, grind arith)
+ok_is Greater m n h = absurd (grind arith)
+
+-- the ends of runs that are the same
+pub met_fits : (k : Kind) (a b : List ℕ) {r : Result (ℕ × ℕ) Ordering} → r ≡ met k a b
+    → IfOk r (λ p. (p.0 ≤ length a) × (p.1 ≤ length b))
+unfolding met
+met_fits k a b e = rw e (go (by_run (front_run k a) (front_run k b)))
   where
-    go : (p q : Bool) → k ≡ cond p digit (cond q letter separator) → k ≤ 2
-    go true q e = omega arith
-    go false true e = omega arith
-    go false false e = omega arith
-
--- the runs of a kind
-pub meet_digits : (k : ℕ) (s t : List ℕ) {r : Met} → k ≡ 2 → r ≡ met digit s t → r ≡ met k s t
-meet_digits k s t h e = rw h e
-
-pub meet_letters : (k : ℕ) (s t : List ℕ) {r : Met} → 1 ≤ k → k ≤ 2 → (k ≡ 2 → ⊥) → r ≡ met letter s t → r ≡ met k s t
-meet_letters k s t h l n e = let d : k ≡ 1 = omega arith in rw d e
+    go : (o : Ordering)
+        → IfOk (met_as o (prefix_len (of_kind k) a) (prefix_len (of_kind k) b)) (λ p. (p.0 ≤ length a) × (p.1 ≤ length b))
+    go Less = tt
+    go Equal = (prefix_len-le-length (of_kind k) a, prefix_len-le-length (of_kind k) b)
+    go Greater = tt
 
 same_runs : (a b c d : List ℕ) → runs a ≡ runs b → runs c ≡ runs d → by_text a c ≡ by_text b d
 unfolding by_text
-same_runs a b c d h k = ap₂ (by_list by_run) h k
+same_runs a b c d h k = ap₂ (slice_cmp by_run) h k
 
--- what an answer says of the order
-older_is : (o : Order) (m n : ℕ) → met_as o m n ≡ met-is.Older → o ≡ Older
-older_is Older m n h = refl
-older_is Same m n h = let z : ◌≡◌ {A = ℕ} 0 1 = cc in absurd (omega arith)
-older_is Newer m n h = let z : ◌≡◌ {A = ℕ} 0 1 = cc in absurd (omega arith)
-
-newer_is : (o : Order) (m n : ℕ) → met_as o m n ≡ met-is.Newer → o ≡ Newer
-newer_is Older m n h = let z : ◌≡◌ {A = ℕ} 0 1 = cc in absurd (omega arith)
-newer_is Same m n h = let z : ◌≡◌ {A = ℕ} 0 1 = cc in absurd (omega arith)
-newer_is Newer m n h = refl
-
-same_is : (o : Order) (m n : ℕ) {a b : ℕ} → met_as o m n ≡ met-is.Same a b → (o ≡ Same) × (m ≡ a) × (n ≡ b)
-same_is Older m n h = let z : ◌≡◌ {A = ℕ} 0 1 = cc in absurd (omega arith)
-same_is Same m n h = (refl, cc, cc)
-same_is Newer m n h = let z : ◌≡◌ {A = ℕ} 0 1 = cc in absurd (omega arith)
-
-shifted_as : (p q : ℕ) (o : Order) (m n : ℕ) → shifted p q (met_as o m n) ≡ met_as o (p + m) (q + n)
-shifted_as p q Older m n = refl
-shifted_as p q Same m n = refl
-shifted_as p q Newer m n = refl
-
--- the runs that start at two places: r is the answer for the texts from there on
-module _ (k : ℕ) (s t : List ℕ) (p q : ℕ) {r : Met}
-    (e : r ≡ met k (take (length s - p) (drop p s)) (take (length t - q) (drop q t))) where
-  placed : r ≡ met k (drop p s) (drop q t)
-  placed = e ∙ ap₂ (met k) (part_rest s p) (part_rest t q)
-
-  pub met_older : r ≡ met-is.Older → met-is.Older ≡ met_at k s t p q
-  unfolding met_at
-  met_older h = ap (shifted p q) (sym h ∙ placed)
-
-  pub met_newer : r ≡ met-is.Newer → met-is.Newer ≡ met_at k s t p q
-  unfolding met_at
-  met_newer h = ap (shifted p q) (sym h ∙ placed)
-
-  pub met_same : {m n : ℕ} → r ≡ met-is.Same m n → met-is.Same (p + m) (q + n) ≡ met_at k s t p q
-  unfolding met_at
-  met_same h = ap (shifted p q) (sym h ∙ placed)
-
-  alike : {m n : ℕ} → r ≡ met-is.Same m n → (front (of_kind k) (drop p s) ≡ m) × (front (of_kind k) (drop q t) ≡ n)
-  unfolding met
-  alike d =
-      let w = same_is (by_run (front_run k (drop p s)) (front_run k (drop q t))) (front (of_kind k) (drop p s))
-      (front (of_kind k) (drop q t)) (sym placed ∙ d) in
-      (w.1, w.2)
-
-  pub met_within : {m n : ℕ} → p ≤ length s → q ≤ length t → r ≡ met-is.Same m n → (p + m ≤ length s) × (q + n ≤ length t)
-  met_within h l d =
-      let w = alike d in (
-        omega (arith, front_fits (of_kind k) (drop p s), length-drop p s),
-        omega (arith, front_fits (of_kind k) (drop q t), length-drop q t),
-      )
-
--- one turn: the texts from i and j on, with the next runs at p and q
-module _ (s t : List ℕ) (i j p q k l : ℕ) {o : Order} (inv : o ≡ by_text (drop i s) (drop j t))
-    (x : Skips s i p) (y : Skips t j q) (f : k ≡ kind_of (drop p s)) (g : l ≡ kind_of (drop q t)) where
-  skipped : o ≡ by_text (drop p s) (drop q t)
+-- one turn: the texts s and t, and a and b from their next runs on
+module _ {s t a b : List ℕ} {k l : Kind} {o : Ordering} (inv : o ≡ by_text s t)
+    (x : Skips s a) (y : Skips t b) (f : k ≡ kind_of a) (g : l ≡ kind_of b) where
+  skipped : o ≡ by_text a b
   skipped = inv ∙ same_runs _ _ _ _ (sym x.same) (sym y.same)
 
-  pub text_older : k < l → Older ≡ o
-  text_older h =
-      sym (skipped ∙ differ (drop p s) (drop q t) x.starts y.starts (λ e. omega arith) ∙ less _ _ (rw (← f, ← g) h))
+  pub text_kinds : (k ≡ l → ⊥) → nat_cmp (rank k) (rank l) ≡ o
+  text_kinds h =
+      ap₂ (λ (i j : Kind). nat_cmp (rank i) (rank j)) f g
+      ∙ sym (skipped ∙ differ a b x.starts y.starts (λ e. h (f ∙ e ∙ sym g)))
 
-  pub text_newer : l < k → Newer ≡ o
-  text_newer h =
-      sym (skipped ∙ differ (drop p s) (drop q t) x.starts y.starts (λ e. omega arith) ∙ more _ _ (rw (← f, ← g) h))
+  pub text_end : k ≡ l → k ≡ separator → Equal ≡ o
+  text_end h e = sym (skipped ∙ both_end a b x.starts y.starts (sym f ∙ e) (sym g ∙ sym h ∙ e))
 
-  pub text_end : l ≤ k → k ≡ 0 → Same ≡ o
-  text_end h e = sym (skipped ∙ both_end (drop p s) (drop q t) x.starts y.starts (omega arith) (omega arith))
+  module _ (h : k ≡ l) (z : k ≡ separator → ⊥) {r : Result (ℕ × ℕ) Ordering} (e : r ≡ met k a b) where
+    turn : o ≡ ordering_then (by_run (front_run k a) (front_run k b))
+        (by_text (drop (prefix_len (of_kind k) a) a) (drop (prefix_len (of_kind k) b) b))
+    turn = skipped ∙ both_run a b k (sym f) (sym g ∙ sym h) z
 
-  module _ (h : l ≤ k) (h' : k ≤ l) (z : k ≡ 0 → ⊥) {r : Met} (e : r ≡ met_at k s t p q) where
-    turn : o ≡ or_else (by_run (front_run k (drop p s)) (front_run k (drop q t)))
-        (by_text (drop (front (of_kind k) (drop p s)) (drop p s)) (drop (front (of_kind k) (drop q t)) (drop q t)))
-    turn = skipped ∙ both_run (drop p s) (drop q t) k (sym f) (sym g ∙ omega arith) z
+    answered : met_as (by_run (front_run k a) (front_run k b)) (prefix_len (of_kind k) a) (prefix_len (of_kind k) b) ≡ r
+    unfolding met
+    answered = sym e
 
-    order : Order
-    order = by_run (front_run k (drop p s)) (front_run k (drop q t))
+    pub run_differ : {p : Ordering} → r ≡ Err p → p ≡ o
+    run_differ d =
+        let w = err_is (by_run (front_run k a) (front_run k b)) _ _ (answered ∙ d) in
+        sym (turn ∙ then_other _ w.1 ∙ w.0)
 
-    past_left : ℕ
-    past_left = p + front (of_kind k) (drop p s)
+    module _ {m n : ℕ} (d : r ≡ Ok (m, n)) where
+      ends : (by_run (front_run k a) (front_run k b) ≡ Equal) × (prefix_len (of_kind k) a ≡ m) × (prefix_len (of_kind k) b ≡ n)
+      ends = ok_is (by_run (front_run k a) (front_run k b)) _ _ (answered ∙ d)
 
-    past_right : ℕ
-    past_right = q + front (of_kind k) (drop q t)
-
-    answered : met_as order past_left past_right ≡ r
-    unfolding met met_at order past_left past_right
-    answered =
-        sym (e ∙ shifted_as p q (by_run (front_run k (drop p s)) (front_run k (drop q t))) (front (of_kind k) (drop p s))
-        (front (of_kind k) (drop q t)))
-
-    pub run_older : r ≡ met-is.Older → Older ≡ o
-    unfolding order
-    run_older d = sym (turn ∙ else_older _ (older_is order past_left past_right (answered ∙ d)))
-
-    pub run_newer : r ≡ met-is.Newer → Newer ≡ o
-    unfolding order
-    run_newer d = sym (turn ∙ else_newer _ (newer_is order past_left past_right (answered ∙ d)))
-
-    module _ {m n : ℕ} (d : r ≡ met-is.Same m n) where
-      behind : (by_run (front_run k (drop p s)) (front_run k (drop q t)) ≡ Same)
-          × (p + front (of_kind k) (drop p s) ≡ m) × (q + front (of_kind k) (drop q t) ≡ n)
-      unfolding order past_left past_right
-      behind = same_is order past_left past_right (answered ∙ d)
-
-      pub run_same : o ≡ by_text (drop m s) (drop n t)
+      pub run_same : o ≡ by_text (behind m a) (behind n b)
       run_same =
-          let w = behind in
-          turn ∙ else_same _ w.0
-          ∙ ap₂ by_text (drop-drop _ p s ∙ ap (λ (a : ℕ). drop a s) w.1) (drop-drop _ q t ∙ ap (λ (a : ℕ). drop a t) w.2)
+          let w = ends in
+          turn ∙ then_equal _ w.0
+          ∙ ap₂ by_text (ap (λ (i : ℕ). drop i a) w.1 ∙ sym (part_rest a m)) (ap (λ (i : ℕ). drop i b) w.2 ∙ sym (part_rest b n))
 
-      pub left_fits : m ≤ length s
-      left_fits = let w = behind in let a = x.fits in omega (arith, front_fits (of_kind k) (drop p s), length-drop p s)
-
-      pub right_fits : n ≤ length t
-      right_fits = let w = behind in let a = y.fits in omega (arith, front_fits (of_kind k) (drop q t), length-drop q t)
-
-      pub less_left : length s - m < length s - i
-      less_left =
-          let w = behind in
-          let a = x.ahead in
-          omega (arith, front_some k (drop p s) (sym f) z, left_fits)
+      pub shorter : length (behind m a) < length s
+      shorter =
+          let w = ends in
+          let i = x.fits in
+          omega (arith, ap (length {A = ℕ}) (part_rest a m), length-drop m a, front_some k a (sym f) z, prefix_len-le-length (of_kind k) a)

@@ -1,9 +1,9 @@
 -- Document 02, request 6, in its own words: what the runs of a text are, when one text is older than another or the same as it,
--- and that texts are in a total order up to Same. Each is proved in proofs/ under its name in small letters: RunsExactly as
+-- and that texts are in a total order up to Equal. Each is proved in proofs/ under its name in small letters: RunsExactly as
 -- runs_exactly.
 use Rattle.std.specs.Prelude.{ℕ, ◌+◌, ◌*◌, ◌-◌, ◌≤◌, ◌<◌, ◌≡◌, ◌↔◌, ◌⊎◌, List, [], ◌∷◌, ◌++◌, length, get_or}
-use Rattle.runs.specs.declared.Order.{Order}
-use Rattle.runs.specs.declared.Order.TheVariants.{Older, Same, Newer}
+use Rattle.std.specs.declared.cmp.Ordering.{Ordering}
+use Rattle.std.specs.declared.cmp.Ordering.TheVariants.{Less, Equal, Greater}
 use Rattle.runs.specs.Runs.{letter, digit, Run, run, value}
 use Rattle.version.specs.Version.{runs, by_text}
 
@@ -69,34 +69,34 @@ pub data LowerRun : Run → Run → Type 0 where
 abbrev pub OlderExactly : Type 0
 OlderExactly =
     (s t : List ℕ) (rs qs : List Run) → Parted s rs → Parted t qs
-    → (by_text s t ≡ Older) ↔ Before AlikeRuns LowerRun rs qs
+    → (by_text s t ≡ Less) ↔ Before AlikeRuns LowerRun rs qs
 
 abbrev pub SameExactly : Type 0
 SameExactly =
-    (s t : List ℕ) (rs qs : List Run) → Parted s rs → Parted t qs → (by_text s t ≡ Same) ↔ Paired AlikeRuns rs qs
+    (s t : List ℕ) (rs qs : List Run) → Parted s rs → Parted t qs → (by_text s t ≡ Equal) ↔ Paired AlikeRuns rs qs
 
 abbrev pub NewerExactly : Type 0
 NewerExactly =
     (s t : List ℕ) (rs qs : List Run) → Parted s rs → Parted t qs
-    → (by_text s t ≡ Newer) ↔ Before AlikeRuns LowerRun qs rs
+    → (by_text s t ≡ Greater) ↔ Before AlikeRuns LowerRun qs rs
 
--- a total order up to Same
-pub record TotalOrder {A : Type 0} (by : A → A → Order) : Type 0 where
-  -- Same is an equivalence
-  pub reflexive : (x : A) → by x x ≡ Same
-  pub symmetric : (x y : A) → by x y ≡ Same → by y x ≡ Same
-  pub transitive : (x y z : A) → by x y ≡ Same → by y z ≡ Same → by x z ≡ Same
-  -- Older and Newer are each other's converse, and Older is transitive
-  pub converse : (x y : A) → (by x y ≡ Older) ↔ (by y x ≡ Newer)
-  pub chain : (x y z : A) → by x y ≡ Older → by y z ≡ Older → by x z ≡ Older
-  -- Same on either side changes no answer
-  pub left : (x y z : A) → by x y ≡ Same → by x z ≡ by y z
-  pub right : (x y z : A) → by y z ≡ Same → by x y ≡ by x z
+-- a total order up to Equal
+pub record TotalOrder {A : Type 0} (by : A → A → Ordering) : Type 0 where
+  -- Equal is an equivalence
+  pub reflexive : (x : A) → by x x ≡ Equal
+  pub symmetric : (x y : A) → by x y ≡ Equal → by y x ≡ Equal
+  pub transitive : (x y z : A) → by x y ≡ Equal → by y z ≡ Equal → by x z ≡ Equal
+  -- Less and Greater are each other's converse, and Less is transitive
+  pub converse : (x y : A) → (by x y ≡ Less) ↔ (by y x ≡ Greater)
+  pub chain : (x y z : A) → by x y ≡ Less → by y z ≡ Less → by x z ≡ Less
+  -- Equal on either side changes no answer
+  pub left : (x y z : A) → by x y ≡ Equal → by x z ≡ by y z
+  pub right : (x y z : A) → by y z ≡ Equal → by x y ≡ by x z
   -- one of the three holds, and no two
-  pub one : (x y : A) → (by x y ≡ Older) ⊎ ((by x y ≡ Same) ⊎ (by x y ≡ Newer))
-  pub not_same : (x y : A) → by x y ≡ Older → by x y ≡ Same → ⊥
-  pub not_newer : (x y : A) → by x y ≡ Older → by x y ≡ Newer → ⊥
-  pub not_both : (x y : A) → by x y ≡ Same → by x y ≡ Newer → ⊥
+  pub one : (x y : A) → (by x y ≡ Less) ⊎ ((by x y ≡ Equal) ⊎ (by x y ≡ Greater))
+  pub not_equal : (x y : A) → by x y ≡ Less → by x y ≡ Equal → ⊥
+  pub not_greater : (x y : A) → by x y ≡ Less → by x y ≡ Greater → ⊥
+  pub not_both : (x y : A) → by x y ≡ Equal → by x y ≡ Greater → ⊥
 
 abbrev pub TextsInOrder : Type 0
 TextsInOrder = TotalOrder by_text

@@ -2,95 +2,70 @@
 // A text is its runs of digits and of letters; what stands between them only separates.
 #![tactic(auto)]
 
-ghost use Rattle.std.specs.Prelude.{◌≡◌, ◌≤◌, length, drop};
-ghost use Rattle.runs.specs.Runs.{met};
+ghost use Rattle.std.specs.Prelude.{◌≡◌, ◌≢◌, ◌≤◌, length, IfOk};
+ghost use Rattle.runs.specs.Runs.{separator, met};
 ghost use Rattle.version.specs.Version.{kind_of, by_text};
-ghost use Rattle.version.specs.Steps.{Skips, met_at};
+ghost use Rattle.version.specs.Steps.{Skips};
 
-use runs::{Kind, Met, Order, kind_of};
+use runs::{Kind, kind_of, of_kind};
+use std::cmp::Ordering;
 
-// The first place from `from` on where a run starts, or the text's end.
-fn skip(s: &[u8], from: usize) -> usize
-    requires { from ≤ length s.now }
-    ensures { Skips s.now from result }
+// The text from its first run on.
+fn skip(s: &[u8]) -> &[u8]
+    ensures { Skips s.now result.now }
 {
-    let mut i = from;
-    while i < s.len() {
-        if kind_of(s[i]) != Kind::SEPARATOR {
-            return i;
-        }
-        i += 1;
-    }
-    i
+    let n = s
+        .iter()
+        .take_while(|b| of_kind(**b, Kind::Separator))
+        .count();
+    &s[n..]
 }
 
-// The kind of the run that starts at a place; a separator's at the text's end.
-fn kind_at(s: &[u8], at: usize) -> u8
-    requires { at ≤ length s.now }
-    ensures { result ≡ kind_of (drop at s.now) }
+// The kind of a text's first byte; a separator's where there is none.
+fn first_kind(s: &[u8]) -> Kind
+    ensures { result ≡ kind_of s.now }
 {
-    if at < s.len() {
-        return kind_of(s[at]);
+    match s.first() {
+        Some(b) => kind_of(*b),
+        None => Kind::Separator,
     }
-    Kind::SEPARATOR
 }
 
 // The runs of kind `k` that two texts begin with.
-fn first_runs(a: &[u8], b: &[u8], k: u8) -> Met
-    requires { (1 ≤ k) × (k ≤ 2) }
-    ensures { result ≡ met k a.now b.now }
+fn first_runs(a: &[u8], b: &[u8], k: Kind) -> Result<(usize, usize), Ordering>
+    requires { k ≢ separator }
+    ensures runs { result ≡ met k a.now b.now }
+    ensures fits { IfOk result (λ ends. (ends.0 ≤ length a.now) × (ends.1 ≤ length b.now)) }
 {
-    if k == Kind::DIGIT {
+    if k == Kind::Digit {
         return runs::digits(a, b);
     }
     runs::letters(a, b)
 }
 
-// The runs of kind `k` that start at two places; where they are the same, the places behind them.
-fn meet(left: &[u8], right: &[u8], p: usize, q: usize, k: u8) -> Met
-    requires { (p ≤ length left.now) × (q ≤ length right.now) × (1 ≤ k) × (k ≤ 2) }
-    ensures { result ≡ met_at k left.now right.now p q }
-{
-    let both = first_runs(&left[p..], &right[q..], k);
-    match both {
-        Met::Older => Met::Older,
-        Met::Newer => Met::Newer,
-        Met::Same(m, n) => {
-            let i = p + m;
-            let j = q + n;
-            Met::Same(i, j)
-        }
-    }
-}
-
-// How the left text stands to the right one: older, the same or newer.
-pub fn compare(left: &[u8], right: &[u8]) -> Order
+// How the left text stands to the right one: older (less), the same (equal) or newer (greater).
+pub fn compare(left: &[u8], right: &[u8]) -> Ordering
     ensures { result ≡ by_text left.now right.now }
 {
-    let mut i = 0;
-    let mut j = 0;
+    let mut a = left;
+    let mut b = right;
     loop {
-        let p = skip(left, i);
-        let q = skip(right, j);
-        let k = kind_at(left, p);
-        let l = kind_at(right, q);
-        if k < l {
-            return Order::Older;
+        a = skip(a);
+        b = skip(b);
+        let k = first_kind(a);
+        let l = first_kind(b);
+        if k != l {
+            return k.cmp(&l);
         }
-        if l < k {
-            return Order::Newer;
+        if k == Kind::Separator {
+            return Ordering::Equal;
         }
-        if k == Kind::SEPARATOR {
-            return Order::Same;
-        }
-        let both = meet(left, right, p, q, k);
-        match both {
-            Met::Older => return Order::Older,
-            Met::Newer => return Order::Newer,
-            Met::Same(m, n) => {
-                i = m;
-                j = n;
+        match first_runs(a, b, k) {
+            Ok((m, n)) => {
+                a = &a[m..];
+                b = &b[n..];
             }
+            Err(order) => return order,
         }
     }
 }

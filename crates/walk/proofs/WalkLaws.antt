@@ -4,11 +4,11 @@ use mathlib.Core.Path.{◌≡◌, refl, ap, ◌∙◌}
 use mathlib.Core.List.{List, [], ◌∷◌}
 use native.Mathlib.Omega.{arith}
 use borrow.Author.Tests.{lt-ltb, le-ltb}
-use Rattle.format.specs.declared.verdict.Verdict.TheVariants.{Pass}
 use Rattle.entries.specs.Entries.{record_at}
 use Rattle.package.specs.Package.{sound_check, structure_of}
 use Rattle.walk.specs.Walk.{step_in, step_of}
 use Rattle.walk.specs.Theorems.{visited, walk_from, records_of, WalkVisitsAll}
+use Rattle.format.specs.Verdicts.{pass}
 
 module _ (s : List ℕ) (which : ℕ) where
   walk_none : (position : ℕ) → walk_from s which 0 position ≡ []
@@ -21,7 +21,7 @@ module _ (s : List ℕ) (which : ℕ) where
   unfolding walk_from
   walk_unrolled n position = refl
 
-  module _ (h : sound_check s ≡ Pass) where
+  module _ (h : sound_check s ≡ pass) where
     step_taken : (position : ℕ) → step_of s which position ≡ step_in s (structure_of s which) position
     unfolding step_of
     step_taken position = rw h

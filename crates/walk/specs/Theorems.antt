@@ -1,18 +1,16 @@
 -- What walks promise.
-use Rattle.std.specs.Prelude.{ℕ, zero, suc, ◌+◌, ◌≤◌, ◌≡◌, List, [], ◌∷◌}
+use Rattle.std.specs.Prelude.{ℕ, zero, suc, ◌+◌, ◌≤◌, ◌≡◌, List, [], ◌∷◌, Ok, Err}
 use Rattle.format.specs.declared.section.Section.{Section}
 use Rattle.format.specs.declared.records.IndexRecord.{IndexRecord}
-use Rattle.format.specs.declared.verdict.Verdict.TheVariants.{Pass}
-use Rattle.format.specs.declared.verdict.Answer.{Answer}
-use Rattle.format.specs.declared.verdict.Answer.TheVariants.{Done, Refused}
 use Rattle.entries.specs.Entries.{record_at}
 use Rattle.package.specs.Package.{sound_check, structure_of}
 use Rattle.walk.specs.Walk.{step_of}
+use Rattle.format.specs.Verdicts.{Answer, pass}
 
 -- what a walk has seen after a step: a refused step ends it
 abbrev pub visited : Answer → IndexRecord → List IndexRecord → List IndexRecord
-visited (Done place) found rest = found ∷ rest
-visited (Refused number place) found rest = []
+visited (Ok place) found rest = found ∷ rest
+visited (Err e) found rest = []
 
 -- the records of at most n steps from a position, each step from the position that the one before handed back
 unfoldable pub walk_from : List ℕ → ℕ → ℕ → ℕ → List IndexRecord
@@ -30,5 +28,5 @@ records_of s section (suc n) i = record_at s section i ∷ records_of s section 
 -- a step's place is its record's.)
 abbrev pub WalkVisitsAll : Type 0
 WalkVisitsAll =
-    (s : List ℕ) (which steps : ℕ) → sound_check s ≡ Pass → (structure_of s which).nindex ≤ steps
+    (s : List ℕ) (which steps : ℕ) → sound_check s ≡ pass → (structure_of s which).nindex ≤ steps
     → walk_from s which steps 0 ≡ records_of s (structure_of s which) (structure_of s which).nindex 0

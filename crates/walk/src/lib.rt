@@ -1,14 +1,13 @@
 // Walking an index: check 26.
 // A position by value hands back the next.
-#![tactic(auto)]
+#![tactic(auto, unfolding(package::specs::Package::opened, crate::specs::Walk::step_of))]
 
 ghost use Rattle.std.specs.Prelude.{◌≡◌, ℕ, ◌+◌, ◌≤◌, ◌<◌};
 ghost use Rattle.format.specs.Sizes.{package_limit};
 ghost use Rattle.format.specs.Places.{section_end};
 ghost use Rattle.walk.specs.Walk.{refused_step, step_in, step_of};
 
-use format::{Answer, IndexRecord, Section};
-use package::{Opened, open, section_for};
+use format::{Answer, IndexRecord, Refusal, Section};
 use places::StoreOffset;
 
 // A position in an index: the number of a record.
@@ -26,11 +25,11 @@ pub struct Step {
 }
 
 // A refused step: four zeros and the same position.
-fn refused(number: u32, place: u32, position: u32) -> Step
-    ensures { result ≡ refused_step number place position }
+fn refused(refusal: Refusal, position: u32) -> Step
+    ensures { result ≡ refused_step refusal.number refusal.place position }
 {
     Step {
-        answer: Answer::Refused(number, place),
+        answer: Err(refusal),
         found: IndexRecord {
             tag: 0,
             ty: 0,
@@ -46,18 +45,18 @@ fn step_in(pkg: &[u8], section: Section, position: u32) -> Step
     requires { section_end section ≤ package_limit }
     ensures { result ≡ step_in pkg.now section position }
 {
-    if position < section.nindex {
-        let place = section.index_record(position);
-        let found = IndexRecord::at(pkg, place);
-        let at = place.get() as u32;
-        let next = position + 1;
-        return Step {
-            answer: Answer::Done(at),
-            found: found,
-            next: Position { number: next },
-        };
+    if section.nindex <= position {
+        let past = Refusal::new(26, 0);
+        return refused(past, position);
     }
-    refused(26, 0, position)
+    let place = section.index_record(position);
+    Step {
+        answer: Ok(place.get() as u32),
+        found: IndexRecord::at(pkg, place),
+        next: Position {
+            number: position + 1,
+        },
+    }
 }
 
 impl Position {
@@ -72,13 +71,9 @@ impl Position {
     pub fn step(self, pkg: &[u8], which: u32) -> Step
         ensures { result ≡ step_of pkg.now which self.number }
     {
-        let found = open(pkg);
-        match found {
-            Opened::Unsound(number, place) => refused(number, place, self.number),
-            Opened::Sound(signature, header) => {
-                let section = section_for(which, signature, header);
-                step_in(pkg, section, self.number)
-            }
+        match package::open(pkg) {
+            Ok(opened) => step_in(pkg, opened.section(which), self.number),
+            Err(refusal) => refused(refusal, self.number),
         }
     }
 }

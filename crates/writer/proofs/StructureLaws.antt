@@ -1,6 +1,6 @@
 -- A structure from its parts (structure_put), the writer's own entries (own_index_put, own_store_put), and the
 -- signature with these first (signature_put).
-use Prim.Native.Nat.{ℕ, suc, ◌+◌, ◌-◌, ◌*◌}
+use Prim.Native.Nat.{ℕ, suc, ◌+◌, ◌*◌}
 use mathlib.Core.Path.{◌≡◌, sym}
 use mathlib.Core.List.{List, ◌++◌}
 use lib.ListN.{length, length-append}

@@ -1,20 +1,17 @@
 -- Request 1: what a writing answers, and the buffer afterwards.
-use Rattle.std.specs.Prelude.{ℕ, ◌≡◌, List, length}
+use Rattle.std.specs.Prelude.{ℕ, ◌≡◌, List, length, Ok, Err}
 use Rattle.std.proofs.lemmas.List.Edits.{sets}
-use Rattle.format.specs.declared.verdict.Verdict.{Verdict}
-use Rattle.format.specs.declared.verdict.Verdict.TheVariants.{Pass, Fail}
-use Rattle.format.specs.declared.verdict.Answer.{Answer}
-use Rattle.format.specs.declared.verdict.Answer.TheVariants.{Done, Refused}
 use Rattle.plan.specs.Refusals.{written_of, write_check}
+use Rattle.format.specs.Verdicts.{Verdict, Answer}
 
 -- success is 0 with the length; bytes behind it stay; a refusal leaves the buffer unchanged
 abbrev pub answer_as : Verdict → List ℕ → Answer
-answer_as Pass bytes = Done (length bytes)
-answer_as (Fail number place) bytes = Refused number place
+answer_as (Ok _) bytes = Ok (length bytes)
+answer_as (Err e) bytes = Err e
 
 abbrev pub buffer_as : Verdict → List ℕ → List ℕ → List ℕ
-buffer_as Pass bytes before = sets before 0 bytes
-buffer_as (Fail number place) bytes before = before
+buffer_as (Ok _) bytes before = sets before 0 bytes
+buffer_as (Err e) bytes before = before
 
 -- the answer, and the buffer afterwards
 abbrev pub write_answer : List ℕ → List ℕ → List ℕ → List ℕ → List ℕ → List ℕ → Answer

@@ -1,16 +1,11 @@
-use mathlib.Core.Path.{refl}
-use borrow.Author.Rules.{rules}
 use Rattle.among.proofs.AmongLaws as laws
 use Rattle.among.proofs.among_by_1.Goals as goal
-
-pub loop-k-init : goal.loop-k-init
-loop-k-init c = (search rules, refl)
 
 pub returns-then-be32-tag : goal.returns-then-be32-tag
 returns-then-be32-tag c = search laws.ends
 
 pub loop-k-preserved : goal.loop-k-preserved
-loop-k-preserved c = (search rules, search laws.turn)
+loop-k-preserved c = search laws.turn
 
 pub returns : goal.returns
 returns c = search laws.spent

@@ -5,7 +5,4 @@ use Rattle.among.specs.Among.{tag_among}
 use Rattle.among.proofs.among_by_1.Given as goal
 
 abbrev pub invariant-loop-k : goal.invariant-loop-k
-invariant-loop-k l = (l.k ≤ l.n) × (tag_among l.s l.n l.tag ≡ tag_among l.s l.k l.tag)
-
-abbrev pub decreases-loop-k : goal.decreases-loop-k
-decreases-loop-k l = l.k
+invariant-loop-k l = tag_among l.s l.n l.tag ≡ tag_among l.s l.k l.tag

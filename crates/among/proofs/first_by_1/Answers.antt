@@ -1,10 +1,8 @@
-use mathlib.Core.Path.{refl}
+use Rattle.std.proofs.Common.{◌∙◌, arith}
+use Rattle.among.specs.Among.{has_tag}
 use Rattle.among.proofs.FirstLaws as first
 use Rattle.among.proofs.WithLaws as laws
 use Rattle.among.proofs.first_by_1.Goals as goal
-
-pub loop-i-init : goal.loop-i-init
-loop-i-init c = refl
 
 pub returns-then-be32-tag : goal.returns-then-be32-tag
 returns-then-be32-tag c = search laws.ends
@@ -13,4 +11,6 @@ pub loop-i-preserved : goal.loop-i-preserved
 loop-i-preserved c = search laws.turn
 
 pub returns : goal.returns
-returns c = search first.stops
+returns c =
+    c.max.ensures
+    ∙ first.past (has_tag c.args.s.now c.args.tag) c.args.n c.args.from c.loop-i.i c.loop-i.invariant (omega arith) c.loop-i.auto.i-end

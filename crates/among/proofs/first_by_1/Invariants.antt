@@ -6,6 +6,3 @@ use Rattle.among.proofs.first_by_1.Given as goal
 
 abbrev pub invariant-loop-i : goal.invariant-loop-i
 invariant-loop-i l = first_from (has_tag l.s l.tag) (l.n - l.from) l.from ≡ first_from (has_tag l.s l.tag) (l.n - l.i) l.i
-
-abbrev pub decreases-loop-i : goal.decreases-loop-i
-decreases-loop-i l = l.n - l.i

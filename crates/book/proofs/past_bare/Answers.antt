@@ -12,4 +12,4 @@ pub loop-i-preserved : goal.loop-i-preserved
 loop-i-preserved c = search laws.on
 
 pub returns : goal.returns
-returns c = search laws.out
+returns c = search (laws.out, c.loop-i.auto.i-end)

@@ -7,6 +7,3 @@ use Rattle.book.proofs.past_bare.Given as goal
 
 abbrev pub invariant-loop-i : goal.invariant-loop-i
 invariant-loop-i l = past_bare l.book (length l.book - l.at) l.at ≡ past_bare l.book (length l.book - l.i) l.i
-
-abbrev pub decreases-loop-i : goal.decreases-loop-i
-decreases-loop-i l = length l.book - l.i

@@ -1,5 +1,4 @@
 -- A place at or past the end has nothing to store.
--- Assumes nothing.
 use Rattle.put.proofs.PutLaws as laws
 use Rattle.buffer.proofs.put.Goals as goal
 

@@ -1,5 +1,4 @@
 -- The three stores, one behind the other.
--- Assumes nothing.
 use Rattle.buffer.proofs.BufferLaws as laws
 use Rattle.buffer.proofs.put_dose.Goals as goal
 

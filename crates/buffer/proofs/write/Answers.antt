@@ -1,21 +1,21 @@
-use borrow.Author.Rules.{rules}
-use native.Mathlib.Nat.{sub-zero}
+use Rattle.std.proofs.Common.{ap, ◌∙◌}
+use Rattle.book.specs.Weighings.{left}
 use Rattle.buffer.specs.Buffer.{numbers_per_dose, numbers_of}
 use Rattle.buffer.proofs.BufferLaws as laws
 use Rattle.buffer.proofs.write.Goals as goal
 
 pub loop-at-init : goal.loop-at-init
-loop-at-init c = (simp sub-zero, search rules)
+loop-at-init c =
+    let e = ap left c.into_iter-at-iterator.ensures.into_iter_gives ∙ c.of-at-items.ensures in
+    (tt, tt, laws.begun numbers_of c.args.book.now _ e)
 
 pub returns-then-out-i : goal.returns-then-out-i
 returns-then-out-i c = search laws.full
 
-pub loop-at-preserved-then-is_weighed : goal.loop-at-preserved-then-is_weighed
-loop-at-preserved-then-is_weighed c =
-    (search (laws.turn_weighed numbers_of numbers_per_dose laws.numbers_more, laws.of_dose numbers_of), search rules)
-
 pub loop-at-preserved : goal.loop-at-preserved
-loop-at-preserved c = (search (laws.turn_remark numbers_of), search rules)
+loop-at-preserved c =
+    let more = c.in-Some.ensures.steps in
+    (tt, tt, search (laws.turn numbers_of c.args.book.now numbers_per_dose laws.numbers_more, laws.of_dose numbers_of))
 
 pub returns : goal.returns
-returns c = search (laws.done numbers_of laws.numbers_none)
+returns c = let over = c.in-None.ensures.steps in search (laws.done numbers_of c.args.book.now laws.numbers_none)

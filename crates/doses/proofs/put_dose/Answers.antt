@@ -4,8 +4,5 @@ use lib.Seq.{length-take-le}
 use Rattle.text.proofs.LineLaws as laws
 use Rattle.doses.proofs.put_dose.Goals as goal
 
-pub slice_bounds-line-end-2 : goal.slice_bounds-line-end-2
-slice_bounds-line-end-2 g c = search laws.within
-
 pub slice_bounds-write_all-end : goal.slice_bounds-write_all-end
 slice_bounds-write_all-end g c = sym (length-take-le _ _ (search laws.within))

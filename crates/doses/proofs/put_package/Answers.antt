@@ -7,10 +7,10 @@ use Rattle.doses.proofs.put_package.Goals as goal
 
 pub slice_bounds-doses-end : goal.slice_bounds-doses-end
 slice_bounds-doses-end g c =
-    let a = answer_room _ _ _ c.read-answer.ensures.answered c.in-Done.is in
-    omega (arith, c.read-answer.auto.doses)
+    let a = answer_room _ _ _ c.read.ensures.answered c.in-Ok.is in
+    omega (arith, c.read.auto.doses)
 
 pub slice_bounds-put_book-end : goal.slice_bounds-put_book-end
 slice_bounds-put_book-end g c =
-    let a = answer_room _ _ _ c.read-answer.ensures.answered c.in-Done.is in
-    sym (length-take-le _ _ (omega (arith, c.read-answer.auto.doses)))
+    let a = answer_room _ _ _ c.read.ensures.answered c.in-Ok.is in
+    sym (length-take-le _ _ (omega (arith, c.read.auto.doses)))

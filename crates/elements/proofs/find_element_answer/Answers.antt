@@ -1,13 +1,6 @@
--- By the case of what was sought, which starts in the package. Assumes nothing.
+-- The element starts in the package.
 use Rattle.elements.proofs.PartLaws as laws
-use Rattle.lookups.proofs.SeekLaws.{answer_here, answer_refused}
 use Rattle.elements.proofs.find_element_answer.Goals as goal
 
-pub overflow_cast-place : goal.overflow_cast-place
-overflow_cast-place c = search laws.element_fits
-
-pub returns-in-Here : goal.returns-in-Here
-returns-in-Here c = search answer_here
-
-pub returns-in-Refused : goal.returns-in-Refused
-returns-in-Refused c = search answer_refused
+pub overflow_cast-result : goal.overflow_cast-result
+overflow_cast-result c = let w = c.in_ok-entry.was in search laws.element_fits

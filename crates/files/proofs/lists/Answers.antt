@@ -1,16 +1,17 @@
-use Rattle.files.proofs.FilesLaws.{lists_run}
-use borrow.Author.Rules.{rules}
+use Rattle.std.proofs.Common.{◌∙◌}
+use Rattle.format.proofs.VerdictLaws.{handed}
 use Rattle.format.proofs.RunLaws as laws
+use Rattle.files.proofs.FilesLaws.{lists_run}
 use Rattle.files.proofs.lists.Goals as goal
 
-pub loop-i-init : goal.loop-i-init
-loop-i-init c = (search rules, search lists_run)
+pub loop-tag-init : goal.loop-tag-init
+loop-tag-init c = search lists_run
 
-pub returns-in-Fail : goal.returns-in-Fail
-returns-in-Fail c = search laws.ends
+pub returns-in_err-counts : goal.returns-in_err-counts
+returns-in_err-counts c = let w = c.in_err-counts.was in handed c.from_residual.ensures ∙ search laws.ends
 
-pub loop-i-preserved : goal.loop-i-preserved
-loop-i-preserved c = (search rules, search laws.turn)
+pub loop-tag-preserved : goal.loop-tag-preserved
+loop-tag-preserved c = let w = c.in_ok-counts.was in search laws.turn
 
 pub returns : goal.returns
 returns c = search laws.spent

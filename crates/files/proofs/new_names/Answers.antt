@@ -1,22 +1,12 @@
--- All three present, then a rung for each count. Assumes nothing.
-use Rattle.format.proofs.VerdictLaws.{passed, stopped, answers}
-use Rattle.tags.proofs.TestLaws.{same_number, other_number}
-use Rattle.files.specs.Files.{new_names_check}
-use Rattle.files.proofs.PresentLaws.{missing, there}
+-- All three present, then the counts.
+use Rattle.std.proofs.Common.{◌∙◌}
+use Rattle.format.proofs.VerdictLaws.{handed, went, halted}
+use Rattle.files.proofs.FilesLaws.{new_names_as}
 use Rattle.files.proofs.new_names.Goals as goal
 
-pub returns-in-Fail : goal.returns-in-Fail
-unfolding new_names_check
-returns-in-Fail c = search missing
-
-pub returns-then-count-n : goal.returns-then-count-n
-unfolding new_names_check
-returns-then-count-n c = search (there, passed, stopped, answers, same_number, other_number) depth 14
-
-pub returns-then-count-n-2 : goal.returns-then-count-n-2
-unfolding new_names_check
-returns-then-count-n-2 c = search (there, passed, stopped, answers, same_number, other_number) depth 14
+pub returns-in_err-present : goal.returns-in_err-present
+returns-in_err-present c =
+    let w = c.in_err-present.was in handed c.from_residual.ensures ∙ rw (new_names_as _ _) (search halted)
 
 pub returns : goal.returns
-unfolding new_names_check
-returns c = search (there, passed, stopped, answers, same_number, other_number) depth 14
+returns c = let w = c.in_ok-present.was in rw (new_names_as _ _) (search went)

@@ -1,9 +1,6 @@
--- The bytes that are left decide. Assumes nothing.
+-- The bytes that are left decide.
 use Rattle.gap.proofs.GapLaws.{Left}
 use Rattle.gap.proofs.check.Given as goal
 
-abbrev pub invariant-loop-left : goal.invariant-loop-left
-invariant-loop-left l = Left l.s l.initial.left l.initial.place.0 l.left l.place.0
-
-abbrev pub decreases-loop-left : goal.decreases-loop-left
-decreases-loop-left l = l.left
+abbrev pub invariant-loop : goal.invariant-loop
+invariant-loop l = Left l.s l.size l.initial.place.0 l.counter l.place.0

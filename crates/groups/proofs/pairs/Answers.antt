@@ -1,15 +1,16 @@
-use borrow.Author.Rules.{rules}
+use Rattle.std.proofs.Common.{◌∙◌}
+use Rattle.format.proofs.VerdictLaws.{handed}
 use Rattle.format.proofs.RunLaws as laws
 use Rattle.groups.proofs.pairs.Goals as goal
 
-pub loop-i-init : goal.loop-i-init
-loop-i-init c = (search rules, search laws.begun)
+pub loop-tag-init : goal.loop-tag-init
+loop-tag-init c = search laws.begun
 
-pub returns-in-Fail : goal.returns-in-Fail
-returns-in-Fail c = search laws.ends
+pub returns-in_err-needs : goal.returns-in_err-needs
+returns-in_err-needs c = let w = c.in_err-needs.was in handed c.from_residual.ensures ∙ search laws.ends
 
-pub loop-i-preserved : goal.loop-i-preserved
-loop-i-preserved c = (search rules, search laws.turn)
+pub loop-tag-preserved : goal.loop-tag-preserved
+loop-tag-preserved c = let w = c.in_ok-needs.was in search laws.turn
 
 pub returns : goal.returns
 returns c = search laws.spent

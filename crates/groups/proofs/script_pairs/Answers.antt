@@ -1,5 +1,4 @@
--- The pairs in a row. Assumes nothing.
-use mathlib.Core.Path.{◌∙◌}
+use Rattle.std.proofs.Common.{◌∙◌}
 use Rattle.groups.proofs.GroupsLaws.{script_run}
 use Rattle.groups.proofs.script_pairs.Goals as goal
 

@@ -1,13 +1,15 @@
--- Part by part, in order; each part as the list of the edition's lines. Assumes nothing.
-use Rattle.format.proofs.VerdictLaws.{went, halted}
+-- Part by part, in order; each part is the catalogue's.
+use Rattle.std.proofs.Common.{◌∙◌}
+use Rattle.format.proofs.VerdictLaws.{handed, went, halted}
 use Rattle.lines.specs.Lines.{lines_check}
 use Rattle.lines.proofs.LinesLaws.{of_signature, of_header}
 use Rattle.lines.proofs.check.Goals as goal
 
-pub returns-in-Fail : goal.returns-in-Fail
+pub returns-in_err-lines_of : goal.returns-in_err-lines_of
 unfolding lines_check
-returns-in-Fail c = search (halted, of_signature) depth 12
+returns-in_err-lines_of c =
+    let w = c.in_err-lines_of.was in handed c.from_residual.ensures ∙ search (halted, of_signature)
 
 pub returns : goal.returns
 unfolding lines_check
-returns c = search (went, of_signature, of_header) depth 12
+returns c = let w = c.in_ok-lines_of.was in search (went, of_signature, of_header)

@@ -1,12 +1,7 @@
--- By the case of what was sought, which starts in the package. Assumes nothing.
-use Rattle.lookups.proofs.SeekLaws as laws
+-- The data starts at a 32-bit place.
+use Rattle.lookups.proofs.SeekLaws.{sought_fits}
 use Rattle.lookups.proofs.find_answer.Goals as goal
 
-pub overflow_cast-place : goal.overflow_cast-place
-overflow_cast-place c = search laws.sought_fits
-
-pub returns-in-Here : goal.returns-in-Here
-returns-in-Here c = search laws.answer_here
-
-pub returns-in-Refused : goal.returns-in-Refused
-returns-in-Refused c = search laws.answer_refused
+pub overflow_cast-result : goal.overflow_cast-result
+overflow_cast-result c =
+    sought_fits c.args.pkg.now c.args.which c.args.tag c.args.ty c.seek.ensures c.in_ok-entry.was c.get.ensures

@@ -1,7 +1,6 @@
-use borrow.Author.Rules.{rules}
-use mathlib.Core.List.{List}
-use native.Mathlib.Nat.{sub-zero}
+use Rattle.std.proofs.Common.{List, ap, ◌∙◌}
 use Rattle.book.specs.declared.dose.Dose.{Dose}
+use Rattle.book.specs.Weighings.{left}
 use Rattle.buffer.specs.Buffer.{numbers_of}
 use Rattle.octets.specs.Octets.{bytes_per_dose, number_bytes}
 use Rattle.buffer.proofs.BufferLaws as walk
@@ -9,17 +8,19 @@ use Rattle.octets.proofs.OctetLaws as laws
 use Rattle.octets.proofs.write_bytes.Goals as goal
 
 pub loop-at-init : goal.loop-at-init
-loop-at-init c = (simp sub-zero, search rules)
+loop-at-init c =
+    let e = ap left c.into_iter-at-iterator.ensures.into_iter_gives ∙ c.of-at-items.ensures in
+    (tt, tt, walk.begun (λ (ds : List Dose). number_bytes (numbers_of ds)) c.args.book.now _ e)
 
 pub returns-then-out-i : goal.returns-then-out-i
 returns-then-out-i c = search walk.full
 
-pub loop-at-preserved-then-is_weighed : goal.loop-at-preserved-then-is_weighed
-loop-at-preserved-then-is_weighed c =
-    (search (walk.turn_weighed (λ (ds : List Dose). number_bytes (numbers_of ds)) bytes_per_dose laws.bytes_more), search rules)
-
 pub loop-at-preserved : goal.loop-at-preserved
-loop-at-preserved c = (search (walk.turn_remark (λ (ds : List Dose). number_bytes (numbers_of ds))), search rules)
+loop-at-preserved c =
+    let more = c.in-Some.ensures.steps in
+    (tt, tt, search (walk.turn (λ (ds : List Dose). number_bytes (numbers_of ds)) c.args.book.now bytes_per_dose laws.bytes_more))
 
 pub returns : goal.returns
-returns c = search (walk.done (λ (ds : List Dose). number_bytes (numbers_of ds)) laws.bytes_none)
+returns c =
+    let over = c.in-None.ensures.steps in
+    search (walk.done (λ (ds : List Dose). number_bytes (numbers_of ds)) c.args.book.now laws.bytes_none)

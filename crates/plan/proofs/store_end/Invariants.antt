@@ -2,15 +2,14 @@
 use Prim.Native.Nat.{◌≤◌, ◌+◌, ◌-◌, ◌*◌}
 use mathlib.Core.Path.{◌≡◌}
 use lib.ListN.{length}
-use Rattle.lists.specs.Lists.{entries_from, sizes_from}
+use Rattle.lists.specs.Lists.{entries_from, entries_of, sizes_from}
 use Rattle.layout.specs.Layout.{store_from}
+use Rattle.layout.proofs.TurnLaws.{place_of}
 use Rattle.plan.proofs.store_end.Given as goal
 
 abbrev pub invariant-loop-i : goal.invariant-loop-i
-invariant-loop-i l = (l.i ≤ l.n) × (16 * l.n ≤ length l.list)
-    × (l.at + sizes_from l.list (l.n - l.i) l.i ≡ length l.row) × (l.filled ≤ 20 + l.at + 3 * l.i)
-    × (l.start + length (store_from l.start (entries_from l.list l.row l.n 0 0))
-    ≡ l.filled + length (store_from l.filled (entries_from l.list l.row (l.n - l.i) l.i l.at)))
-
-abbrev pub decreases-loop-i : goal.decreases-loop-i
-decreases-loop-i l = l.n - l.i
+invariant-loop-i l = (16 * l.n ≤ length l.lent.list.now) × (sizes_from l.lent.list.now (l.n - l.i) l.i ≤ length l.lent.row.now)
+    × (l.filled ≤ 20 + place_of l.lent.list.now l.lent.row.now l.n l.i + 3 * l.i)
+    × (l.start + length (store_from l.start (entries_of l.lent.list.now l.lent.row.now))
+    ≡ l.filled + length (store_from l.filled
+    (entries_from l.lent.list.now l.lent.row.now (l.n - l.i) l.i (place_of l.lent.list.now l.lent.row.now l.n l.i))))

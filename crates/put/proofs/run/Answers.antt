@@ -1,12 +1,8 @@
--- One behind the other, as far as there is room. Assumes nothing.
+use Rattle.std.proofs.Common.{arith}
 use Rattle.put.proofs.PutLaws as laws
 use Rattle.put.proofs.run.Goals as goal
 
-pub returns-then-len-at : goal.returns-then-len-at
-returns-then-len-at c = search laws.run_past
-
-pub returns-then-len-at-2 : goal.returns-then-len-at-2
-returns-then-len-at-2 c = search laws.run_cut
-
 pub returns : goal.returns
-returns c = search laws.run_put
+returns c =
+    laws.run_put c.args.out.now c.args.at c.args.n _ _ c.args.from.now (omega arith) c.bytes.ensures c.saturating_add.ensures
+    c.zeros.ensures

@@ -1,13 +1,8 @@
-use native.Mathlib.Nat.{add-zero, sub-zero}
+use Rattle.std.proofs.Common.{refl}
 use Rattle.put.proofs.PutLaws as laws
-use borrow.Author.Rules.{rules}
 use Rattle.put.proofs.zeros.Goals as goal
 
-pub loop-i-init : goal.loop-i-init
-loop-i-init c = (search rules, simp (add-zero, sub-zero), search rules)
-
-pub loop-i-preserved : goal.loop-i-preserved
-loop-i-preserved c = (search rules, search laws.fill_turn, search rules)
-
 pub returns : goal.returns
-returns c = search laws.filled
+returns c =
+    laws.zeros_put c.args.out.now c.args.at c.min-at.result _ c.min-at.ensures c.args.n c.min-n.result
+    (c.fill.ensures.after (λ y h. h)) c.min-n.ensures refl

@@ -3,17 +3,14 @@
 use Prim.Native.Nat.{◌≤◌, ◌-◌, ◌*◌}
 use mathlib.Core.Path.{◌≡◌}
 use lib.ListN.{length}
-use Rattle.lists.specs.Lists.{entries_from}
+use Rattle.lists.specs.Lists.{entries_from, entries_of}
 use Rattle.reasons.specs.Reasons.{entries_reasons, own_tags, tags_before}
 use Rattle.among.specs.Among.{first_from}
 use Rattle.repeats.specs.Repeats.{repeated_among}
 use Rattle.reasons.proofs.entries_check.Given as goal
 
 abbrev pub invariant-loop-i : goal.invariant-loop-i
-invariant-loop-i l = (l.i ≤ l.n) × (16 * l.n ≤ length l.list) × (l.at ≤ 4294967295 * l.i)
-    × (l.repeat ≡ first_from (repeated_among l.list) (l.n - l.i) l.i)
-    × (entries_reasons l.structure (own_tags l.structure) (entries_from l.list l.row l.n 0 0)
-    ≡ entries_reasons l.structure (tags_before l.structure l.list l.i) (entries_from l.list l.row (l.n - l.i) l.i l.at))
-
-abbrev pub decreases-loop-i : goal.decreases-loop-i
-decreases-loop-i l = l.n - l.i
+invariant-loop-i l = (16 * l.n ≤ length l.lent.list.now) × (l.at ≤ 4294967295 * l.i)
+    × (l.repeat ≡ first_from (repeated_among l.lent.list.now) (l.n - l.i) l.i)
+    × (entries_reasons l.structure (own_tags l.structure) (entries_of l.lent.list.now l.lent.row.now)
+    ≡ entries_reasons l.structure (tags_before l.structure l.lent.list.now l.i) (entries_from l.lent.list.now l.lent.row.now (l.n - l.i) l.i l.at))

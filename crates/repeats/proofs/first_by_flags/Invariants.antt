@@ -8,8 +8,5 @@ use Rattle.repeats.specs.Seen.{AtMost, Marked}
 use Rattle.repeats.proofs.first_by_flags.Given as goal
 
 abbrev pub invariant-loop-i : goal.invariant-loop-i
-invariant-loop-i l = (l.i ≤ l.n) × AtMost l.s l.i l.highest × Marked l.s l.i l.flags × (length l.flags ≡ 64)
+invariant-loop-i l = AtMost l.s l.i l.highest × Marked l.s l.i l.flags.words × (length l.flags.words ≡ 64)
     × (first_from (repeated_among l.s) l.n 0 ≡ first_from (repeated_among l.s) (l.n - l.i) l.i)
-
-abbrev pub decreases-loop-i : goal.decreases-loop-i
-decreases-loop-i l = l.n - l.i

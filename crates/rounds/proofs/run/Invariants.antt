@@ -1,13 +1,11 @@
--- The blocks that are left, from at on, lead from q to the same registers.
+-- The blocks of what is left lead from q to the same registers.
 -- Assumes nothing.
-use Prim.Native.Nat.{◌≤◌, ◌+◌, ◌*◌, ◌/◌}
-use mathlib.Core.Path.{◌≡◌}
-use lib.ListN.{length}
+use Rattle.std.proofs.Common.{◌≡◌, ◌/◌, length}
+use Rattle.std.specs.Slice.Iter.{chunks_exact_rest, chunks_exact_size}
 use Rattle.rounds.specs.Rounds.{blocks}
 use Rattle.rounds.proofs.run.Given as goal
 
-abbrev pub invariant-loop-left : goal.invariant-loop-left
-invariant-loop-left l = (l.at + 64 * l.left ≤ length l.s) × (blocks l.s l.t (length l.s / 64) 0 l.initial.q ≡ blocks l.s l.t l.left l.at l.q)
-
-abbrev pub decreases-loop-left : goal.decreases-loop-left
-decreases-loop-left l = l.left
+abbrev pub invariant-loop-part : goal.invariant-loop-part
+invariant-loop-part l =
+    let left = chunks_exact_rest l.part-iterator in
+    (chunks_exact_size l.part-iterator ≡ 64) × (blocks l.s l.t (length l.s / 64) 0 l.initial.q ≡ blocks left l.t (length left / 64) 0 l.q)

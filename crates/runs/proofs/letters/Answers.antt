@@ -4,11 +4,8 @@ use Rattle.runs.proofs.MetLaws as laws
 use borrow.Author.Rules.{rules}
 use Rattle.runs.proofs.letters.Goals as goal
 
-pub returns-then-x-y : goal.returns-then-x-y
-returns-then-x-y c = search (laws.letters_older, rules)
+pub returns-in-Equal : goal.returns-in-Equal
+returns-in-Equal c = search (laws.letters_same, rules)
 
-pub returns-then-y-x : goal.returns-then-y-x
-returns-then-y-x c = search (laws.letters_newer, rules)
-
-pub returns : goal.returns
-returns c = search (laws.letters_same, rules)
+pub returns-in_default : goal.returns-in_default
+returns-in_default c = search (laws.letters_unlike, rules)

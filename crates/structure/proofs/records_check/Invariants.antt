@@ -5,12 +5,9 @@ use Rattle.among.specs.Among.{first_from}
 use Rattle.repeats.specs.Repeats.{repeated_in}
 use Rattle.format.specs.Verdicts.{run_from}
 use mathlib.Core.Path.{◌≡◌}
-use Prim.Native.Nat.{◌≤◌, ◌-◌}
+use Prim.Native.Nat.{◌-◌}
 use Rattle.structure.proofs.records_check.Given as goal
 
 abbrev pub invariant-loop-i : goal.invariant-loop-i
-invariant-loop-i l = (l.i ≤ l.n) × (l.repeat ≡ first_from (repeated_in l.s l.section) (l.n - l.i) l.i)
+invariant-loop-i l = (l.repeat ≡ first_from (repeated_in l.s l.section) (l.n - l.i) l.i)
     × (records_check l.structure l.s l.section ≡ run_from (record_check l.structure l.s l.section) (l.n - l.i) l.i)
-
-abbrev pub decreases-loop-i : goal.decreases-loop-i
-decreases-loop-i l = l.n - l.i

@@ -1,5 +1,3 @@
-use lib.ListN.{length-set}
-use native.Mathlib.Omega.{arith}
 use borrow.Author.Rules.{rules}
 use Rattle.text.specs.Hex.{hex_of}
 use Rattle.text.proofs.HexLaws as laws
@@ -9,14 +7,8 @@ pub loop-i-init : goal.loop-i-init
 unfolding hex_of
 loop-i-init c = search rules
 
-pub hex_digit-requires : goal.hex_digit-requires
-hex_digit-requires c = omega (arith, c.type_inv.src c.loop-i.i)
-
-pub bounds-out-next : goal.bounds-out-next
-bounds-out-next c = simp length-set (omega arith)
-
 pub loop-i-preserved : goal.loop-i-preserved
-loop-i-preserved c = (search rules, search rules, search laws.turn)
+loop-i-preserved c = (search rules, search (laws.turn, rules))
 
 pub returns : goal.returns
-returns c = search laws.ends
+returns c = search (laws.ends, rules)

@@ -1,14 +1,11 @@
--- `version::compare` meets its contract. The loop's invariant: from here on the texts compare as from their start.
+-- `version::compare` meets its contract. The loop's invariant: what is left of the texts compares as they do.
 -- Assumes nothing.
-use Prim.Native.Nat.{◌-◌, ◌≤◌}
-use mathlib.Core.Path.{◌≡◌}
-use lib.ListN.{length, drop}
+use Rattle.std.proofs.Common.{◌≡◌, length}
 use Rattle.version.specs.Version.{by_text}
 use Rattle.version.proofs.compare.Given as goal
 
-abbrev pub invariant-loop-i : goal.invariant-loop-i
-invariant-loop-i l = (l.i ≤ length l.left) × (l.j ≤ length l.right)
-    × (by_text l.left l.right ≡ by_text (drop l.i l.left) (drop l.j l.right))
+abbrev pub invariant-loop-a : goal.invariant-loop-a
+invariant-loop-a l = by_text l.left l.right ≡ by_text l.a l.b
 
-abbrev pub decreases-loop-i : goal.decreases-loop-i
-decreases-loop-i l = length l.left - l.i
+abbrev pub decreases-loop-a : goal.decreases-loop-a
+decreases-loop-a l = length l.a

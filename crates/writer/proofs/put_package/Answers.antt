@@ -11,17 +11,15 @@ put_structure-requires c =
     laws.header_ready _ _ _ _ c.requires.2 c.requires.3 c.requires.4 (search rules) c.requires.1
 
 pub put_signature-requires : goal.put_signature-requires
-put_signature-requires c = record {
-  digest_len = search rules;
-  listed = laws.signature_ready _ _ _ _ c.requires.2 c.requires.3 c.requires.4 (search rules) c.requires.0;
-}
+put_signature-requires c =
+    laws.signature_ready _ _ _ _ c.requires.2 c.requires.3 c.requires.4 (search rules) c.requires.0
 
 pub overflow_sub-start : goal.overflow_sub-start
 overflow_sub-start c =
-    laws.gap_fits _ _ _ _ c.requires.2
+    rw c.count.ensures (laws.gap_fits _ _ _ _ c.requires.2)
 
 pub returns : goal.returns
 returns c =
     laws.package_put _ _ _ _ c.requires.2 c.args.out.now c.args.name.now _ _ c.requires.3
     c.put_structure.ensures c.part.ensures c.md5-digest.ensures c.put_lead.ensures
-    c.put_signature.ensures c.zeros.ensures
+    c.put_signature.ensures (rw c.count.ensures at c.zeros.ensures)

@@ -1,7 +1,12 @@
 -- What was decided, and then the package. Assumes nothing.
+use Rattle.format.proofs.VerdictLaws.{handed}
 use Rattle.plan.proofs.PlanLaws as plan
 use Rattle.writer.proofs.WriteLaws as laws
 use Rattle.writer.proofs.write.Goals as goal
+
+pub returns-in_err-sizes : goal.returns-in_err-sizes
+returns-in_err-sizes c =
+    let w = c.in_err-sizes.was in let h = handed c.from_residual.ensures in rw h (search laws.refuses)
 
 pub put_package-requires : goal.put_package-requires
 put_package-requires c =
@@ -13,11 +18,8 @@ put_package-requires c =
     s.header.now
     s.header_data.now
     _
-    c.decide-found.ensures
-    c.in-Fits.is
+    c.decide.ensures
+    c.in_ok-sizes.was
 
-pub returns-in-Refused : goal.returns-in-Refused
-returns-in-Refused c = search laws.refuses
-
-pub returns-in-Fits : goal.returns-in-Fits
-returns-in-Fits c = search laws.wrote
+pub returns : goal.returns
+returns c = let w = c.in_ok-sizes.was in search laws.wrote

@@ -4,8 +4,5 @@ use Prim.Native.Nat.{◌-◌}
 use Rattle.package.specs.Package.{structure_of}
 use Rattle.inspect.proofs.show.put_index.Given as goal
 
-abbrev pub invariant-loop-place : goal.invariant-loop-place
-invariant-loop-place g l = Unit {0}
-
 abbrev pub decreases-loop-place : goal.decreases-loop-place
 decreases-loop-place g l = (structure_of l.pkg l.which).nindex - l.position.number

@@ -5,8 +5,5 @@ use lib.Seq.{length-take-le}
 use Rattle.text.proofs.LineLaws as laws
 use Rattle.inspect.proofs.show.put_line.Goals as goal
 
-pub slice_bounds-line-end-2 : goal.slice_bounds-line-end-2
-slice_bounds-line-end-2 g c = search laws.within
-
 pub slice_bounds-put-end : goal.slice_bounds-put-end
 slice_bounds-put-end g c = sym (length-take-le _ _ (search laws.within))

@@ -5,8 +5,5 @@ use lib.Seq.{length-take-le}
 use Rattle.text.proofs.HexLaws as laws
 use Rattle.inspect.proofs.show.put_part.Goals as goal
 
-pub slice_bounds-spelled-end : goal.slice_bounds-spelled-end
-slice_bounds-spelled-end g c = search laws.within
-
 pub slice_bounds-put-end : goal.slice_bounds-put-end
 slice_bounds-put-end g c = sym (length-take-le _ _ (search laws.within))

@@ -1,4 +1,4 @@
--- By whether the edition has the batch weight's line. Assumes nothing.
+-- By whether the edition has the batch weight's line.
 use Rattle.reading.proofs.OpenedLaws as laws
 use Rattle.reading.proofs.opened.sum_check.Goals as goal
 

@@ -11,11 +11,5 @@ returns-then-n-lt10 t c = search laws.one_digit
 pub digits-last-requires : goal.digits-last-requires
 digits-last-requires t c = (omega arith, search laws.last_fits)
 
-pub bounds-out-last : goal.bounds-out-last
-bounds-out-last t c = search laws.last_place_lem
-
-pub overflow_add-result-2 : goal.overflow_add-result-2
-overflow_add-result-2 t c = let h = bounds-out-last t c in omega arith
-
 pub returns : goal.returns
 returns t c = search laws.last_digit

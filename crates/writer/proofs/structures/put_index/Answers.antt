@@ -1,21 +1,22 @@
 use native.Mathlib.Nat.{add-zero, sub-zero, mul-zero}
+use native.Mathlib.Omega.{arith}
 use Rattle.layout.proofs.TurnLaws as turn
 use Rattle.writer.proofs.TurnLaws as laws
 use borrow.Author.Rules.{rules}
 use Rattle.writer.proofs.structures.put_index.Goals as goal
 
 pub loop-i-init : goal.loop-i-init
-loop-i-init c = (
-  search rules,
-  search rules,
-  simp sub-zero (search rules),
-  search rules,
-  simp (sub-zero, add-zero, mul-zero),
-  search rules,
-)
+loop-i-init c =
+    let k = turn.place_first c.args.lent.now.list.now c.args.lent.now.row.now c.count-n.ensures c.requires.0.2 in
+    (omega arith, k.0, omega arith, rw k.1 (rw c.count-n.ensures (simp (sub-zero, add-zero, mul-zero))), search rules)
 
 pub loop-i-preserved : goal.loop-i-preserved
-loop-i-preserved c = (search rules, search rules, search turn.row_turn, search rules, search laws.index_turn, search rules)
+loop-i-preserved c =
+    let lent = c.args.lent.now in
+    let inv = c.loop-i.invariant in
+    let k = turn.place_next lent.list.now lent.row.now c.count-n.result c.loop-i.i inv.0 inv.1 (search rules) c.entry-e.ensures in
+    let f = turn.placed lent.list.now lent.row.now c.count-n.result c.loop-i.i inv.0 inv.1 (search rules) c.entry-e.ensures in
+    (search rules, k.0, omega arith, rw k.1 (search laws.index_turn), search rules)
 
 pub returns : goal.returns
 returns c = search laws.index_spent

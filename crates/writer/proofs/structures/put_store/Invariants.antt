@@ -4,17 +4,14 @@ use mathlib.Core.Path.{◌≡◌}
 use mathlib.Core.List.{◌++◌}
 use lib.ListN.{length, take, drop}
 use lib.Seq.{sets}
-use Rattle.lists.specs.Lists.{entries_from, sizes_from}
+use Rattle.lists.specs.Lists.{entries_from, entries_of, sizes_from}
 use Rattle.layout.specs.Layout.{store_from}
 use Rattle.writer.proofs.structures.put_store.Given as goal
 
 abbrev pub invariant-loop-i : goal.invariant-loop-i
-invariant-loop-i l = (l.i ≤ l.n) × (16 * l.n ≤ length l.list)
-    × (l.at + sizes_from l.list (l.n - l.i) l.i ≡ length l.row) × (l.filled ≤ 20 + l.at + 3 * l.i) × (l.from ≤ l.at)
-    × (l.to + (l.at - l.from) + length (store_from l.filled (entries_from l.list l.row (l.n - l.i) l.i l.at)) ≤ length l.initial.out)
-    × (sets l.initial.out l.place (store_from l.start (entries_from l.list l.row l.n 0 0))
-    ≡ sets l.out l.to (take (l.at - l.from) (drop l.from l.row) ++ store_from l.filled (entries_from l.list l.row (l.n - l.i) l.i l.at)))
+invariant-loop-i l = (16 * l.n ≤ length l.lent.list.now)
+    × (l.at + sizes_from l.lent.list.now (l.n - l.i) l.i ≡ length l.lent.row.now) × (l.filled ≤ 20 + l.at + 3 * l.i) × (l.from ≤ l.at)
+    × (l.to + (l.at - l.from) + length (store_from l.filled (entries_from l.lent.list.now l.lent.row.now (l.n - l.i) l.i l.at)) ≤ length l.initial.out)
+    × (sets l.initial.out l.place (store_from l.start (entries_of l.lent.list.now l.lent.row.now))
+    ≡ sets l.out l.to (take (l.at - l.from) (drop l.from l.lent.row.now) ++ store_from l.filled (entries_from l.lent.list.now l.lent.row.now (l.n - l.i) l.i l.at)))
     × (length l.out ≡ length l.initial.out)
-
-abbrev pub decreases-loop-i : goal.decreases-loop-i
-decreases-loop-i l = l.n - l.i

@@ -7,11 +7,11 @@ returns c =
     laws.structure_put
     c.args.out.now
     c.args.place
-    c.args.list.now
-    c.args.row.now
+    c.args.lent.now.list.now
+    c.args.lent.now.row.now
     _
     c.args.size
     c.requires.1
-    c.numbers.ensures
+    (rw c.count-n.ensures at c.put_header.ensures)
     c.put_index.ensures
-    c.put_store.ensures
+    (rw c.count-n.ensures at c.put_store.ensures)

@@ -1,13 +1,11 @@
--- Kind AA has a lot; any other kind, and a place past the end, has none.
--- Assumes nothing.
+-- A place past the end, and any kind but AA, has no lot.
 use Rattle.book.proofs.DoseLaws as laws
 use Rattle.book.proofs.dose.Dose.lot_at.Goals as goal
+use Rattle.book.proofs.dose.Dose.lot_at.Goals.{else-at-book-via-then-at-book+else-book-at, else-at-book-via-else-at-book}
 
-pub returns-then-book-at : goal.returns-then-book-at
-returns-then-book-at c = search laws.lot_here
-
-pub returns-else-book-at : goal.returns-else-book-at
-returns-else-book-at c = search laws.no_lot_lem
-
-pub returns-else-at-book : goal.returns-else-at-book
-returns-else-at-book c = search laws.lot_past
+pub returns : goal.returns
+returns c =
+    elim c.else-at-book.branch [
+      | else-at-book-via-then-at-book+else-book-at w ↦ search laws.no_lot_lem
+      | else-at-book-via-else-at-book w ↦ search laws.lot_past
+    ]
