@@ -36,6 +36,7 @@ fn low_in_4(s: &[u8], at: usize, low: u8) -> bool
 }
 
 // Whether one of the four records from a place on has the tag.
+#[inline(always)]
 fn tag_in_4(s: &[u8], at: usize, low: u8, tag: u32) -> bool
     requires { (at + 64 ≤ length s.now) × (low ≡ tag % 256) }
     ensures { result ≡ tag_among (drop at s.now) 4 tag }

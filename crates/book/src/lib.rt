@@ -122,6 +122,7 @@ fn record(edition: u32, book: &[u8], at: usize) -> Result<Option<Dose>, Refusal>
 }
 
 // Checks 20 to 22 for each record in turn, with the number and the sum of the doses.
+#[inline(never)]
 fn records(edition: u32, book: &[u8]) -> Result<Weighed, Refusal>
     requires { length book.now ≤ book_limit }
     ensures { result ≡ weighed_as (records_check (is_known edition) book.now (places book.now))

@@ -33,12 +33,15 @@ fn put_dose(out: &mut [u32], i: usize, dose: Dose)
 pub fn write(book: &[u8], out: &mut [u32])
     ensures { out.new ≡ with_doses book.now out.old }
 {
+    if out.is_empty() {
+        return;
+    }
     let mut i = 0;
     for at in Weighings::of(book) {
+        put_dose(out, i, Dose::at(book, at));
+        i += NUMBERS;
         if out.len() <= i {
             return;
         }
-        put_dose(out, i, Dose::at(book, at));
-        i += NUMBERS;
     }
 }

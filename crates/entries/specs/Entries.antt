@@ -38,7 +38,7 @@ aligned_to None offset = true
 abbrev pub is_aligned : IndexRecord → Bool
 is_aligned e = aligned_to (element_size e.ty) e.offset.0
 
--- the place in the file behind the data: size × count bytes from the offset, or count strings in a row; Open where they
+-- the place in the file behind the data: size × count bytes from the offset, or count strings in a row; None where they
 -- do not end inside the store
 abbrev pub end_for : Option ElementSize → List ℕ → Section → IndexRecord → Option ℕ
 end_for (Some (Bytes n)) s section e =

@@ -17,9 +17,13 @@ use types::element_size;
 fn is_single(structure: Structure, ty: u32) -> bool
     ensures { result ≡ is_single structure ty }
 {
-    match structure {
-        Structure::Signature => ty == 6 || ty == 9,
-        Structure::Header => ty == 6,
+    match ty {
+        6 => true,
+        9 => match structure {
+            Structure::Signature => true,
+            Structure::Header => false,
+        },
+        _ => false,
     }
 }
 
@@ -28,10 +32,9 @@ pub fn count_right(structure: Structure, e: IndexRecord) -> bool
     ensures { result ≡ count_right structure e }
 {
     if is_single(structure, e.ty) {
-        e.count == 1
-    } else {
-        1 <= e.count
+        return e.count == 1;
     }
+    1 <= e.count
 }
 
 // The place in the file behind an entry's data, where that is inside the store (check 12).

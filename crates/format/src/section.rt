@@ -81,6 +81,7 @@ impl Section {
     }
 
     // Index record `i`, likewise.
+    #[inline(always)]
     pub fn record(self, pkg: &[u8], n: u32, i: u32) -> IndexRecord
         ensures { result ≡ index_record_at pkg.now (record_place self i) }
     {

@@ -11,6 +11,7 @@ use format::{Refusal, Verdict};
 use tags::Table;
 
 // Checks 14 and 15 for one line.
+#[inline(always)]
 fn line_check(tags: &Table, line: Line) -> Verdict
     ensures { result ≡ line_check (shown_by tags.now) line }
 {

@@ -1,5 +1,4 @@
--- Look-ups: what they come to, by what was opened; what they show is what is found in the structure (found_shown,
--- header_shown), and sound.
+-- Look-ups: what they show is what is found in the structure (found_shown, header_shown), and sound.
 use Prim.Native.Nat.{ℕ, ◌≤◌}
 use mathlib.Core.Path.{◌≡◌, refl, sym, ◌∙◌}
 use mathlib.Core.List.{List}

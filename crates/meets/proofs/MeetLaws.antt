@@ -1,5 +1,5 @@
--- Whether a text meets a requirement, in the shape of what the code knows: by flags and version of the name's number (says_yes,
--- says_no), among a header's entries (no_flags to counts_same), and by what was found for the name (refused_as to decided_as).
+-- That the entries which a requirement is read from lie in the package: the flags (flags_sound), and what was found for the name
+-- (sound_here, header_here, versions_here).
 use Prim.Native.Nat.{ℕ}
 use mathlib.Core.Path.{◌≡◌, sym, ◌∙◌}
 use mathlib.Core.List.{List}

@@ -58,12 +58,15 @@ fn put_dose_bytes(out: &mut [u8], i: usize, book: &[u8], at: usize)
 pub fn write_bytes(book: &[u8], out: &mut [u8])
     ensures { out.new ≡ with_dose_bytes book.now out.old }
 {
+    if out.is_empty() {
+        return;
+    }
     let mut i = 0;
     for at in Weighings::of(book) {
+        put_dose_bytes(out, i, book, at);
+        i += Dose::BYTES;
         if out.len() <= i {
             return;
         }
-        put_dose_bytes(out, i, book, at);
-        i += Dose::BYTES;
     }
 }

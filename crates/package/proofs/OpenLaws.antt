@@ -1,4 +1,4 @@
--- Checks 2 to 13 and 28 over a package, from what each block found.
+-- What a package that passed checks 2 to 13 and 28 is.
 use Prim.Native.Nat.{ℕ, ◌≤◌}
 use mathlib.Core.Path.{◌≡◌, refl, sym, ap, ◌∙◌}
 use mathlib.Core.List.{List}

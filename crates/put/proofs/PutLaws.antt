@@ -1,11 +1,11 @@
 -- Stores in a buffer (out_of_room, sets_append, sets_past, behind, before, put_there, at_front); bytes and zero bytes put into
--- the part of it that there is room for (all_put, room_put, zeros_put), one behind the other (run_put); the length of what is
+-- the part of it that there is room for (all_put, room_put, zeros_put), one to a turn (copy_turn, copied), one behind the other (run_put); the length of what is
 -- put (length_bytes_lem, length_four).
 use Prim.Native.Nat.{ℕ, suc, ◌+◌, ◌-◌, ◌≤◌, ◌<◌}
 use mathlib.Core.Path.{◌≡◌, refl, sym, ap, ◌∙◌}
 use mathlib.Core.List.{List, [], ◌∷◌, ◌++◌, append_assoc}
-use lib.ListN.{length, set, take, drop, length-take, length-drop, length-replicate, replicate}
-use lib.Seq.{sets, sets-eq, set_out, set_comm, take_at, drop_at, drop-drop, length-sets, length-take-le}
+use lib.ListN.{length, get_or, set, take, drop, length-take, length-drop, length-replicate, replicate}
+use lib.Seq.{sets, sets-eq, set_out, set_comm, take_at, drop_at, drop-cons, drop-drop, length-sets, length-take-le}
 use borrow.Rule.Slice.PartMut.{put_mid}
 use mathlib.Core.Bool.{Bool, true, false}
 use lib.Dec.{leb}
@@ -13,6 +13,7 @@ use borrow.Author.Tests.{leb-true, leb-false}
 use Rattle.std.specs.Prelude.{min}
 use Rattle.std.proofs.lemmas.List.{take-append-drop, take-replicate}
 use native.Mathlib.Nat.{add-zero}
+use native.Mathlib.Numerals.{add-one}
 use native.Mathlib.Omega.{arith}
 use Rattle.put.specs.Puts.{bytes_of, four_bytes, zeros}
 
@@ -127,6 +128,23 @@ module _ (out : List ℕ) (at p k : ℕ) {o : List ℕ} (e : p ≡ min at (lengt
           let w = long in
           let q : k ≡ length out - p = omega arith in
           room_put (zeros n) (f ∙ rw (fits, q) (sym (take-replicate (length out - p) n 0 (omega arith)))) (omega arith) q
+
+-- nothing is left, or there is no room
+no_more : (out : List ℕ) (i : ℕ) (xs : List ℕ) → (1 ≤ length xs → length out ≤ i) → sets out i xs ≡ out
+no_more out i [] h = refl
+no_more out i (x ∷ xs) h = sets_past out i (x ∷ xs) (h (omega arith))
+
+-- a copy of as many bytes as there is room for, one to a turn
+module _ (out : List ℕ) (at n i : ℕ) (bytes : List ℕ) {v : List ℕ} (inv : v ≡ sets out (at + i) (drop i bytes)) where
+  pub copy_turn : (room : ℕ) → n ≡ min (length bytes) room → i < n
+      → v ≡ sets (set out (at + i) (get_or bytes i 0)) (at + (i + 1)) (drop (i + 1) bytes)
+  copy_turn room r l =
+      let e : at + (i + 1) ≡ suc (at + i) = omega arith in
+      inv ∙ rw (e, add-one i, drop-cons bytes i 0 (omega arith))
+
+  pub copied : (room len : ℕ) → n ≡ min (length bytes) room → room ≡ len - at → length out ≡ len → n ≤ i → out ≡ v
+  copied room len r e f l =
+      sym (inv ∙ no_more out (at + i) (drop i bytes) (λ h. let k = length-drop i bytes in omega arith))
 
 -- bytes and zero bytes
 pub run_put : (out : List ℕ) (at n p cap : ℕ) (run : List ℕ) {o r : List ℕ} → length out ≤ cap → o ≡ sets out at run

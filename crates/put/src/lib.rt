@@ -6,8 +6,8 @@ ghost use Rattle.std.specs.Prelude.{◌≡◌, [], ◌∷◌, ◌++◌};
 ghost use Rattle.std.proofs.lemmas.List.Edits.{sets};
 ghost use Rattle.put.specs.Puts.{bytes_of, four_bytes, zeros};
 
-// Puts bytes at a place.
-pub fn bytes(out: &mut [u8], at: usize, from: &[u8])
+// Puts the bytes of an array at a place: their number is known, so that they are copied at once.
+fn array(out: &mut [u8], at: usize, from: &[u8])
     ensures { out.new ≡ sets out.old at from.now }
 {
     let at = at.min(out.len());
@@ -19,11 +19,21 @@ pub fn bytes(out: &mut [u8], at: usize, from: &[u8])
     }
 }
 
+// Puts bytes at a place, one by one: to copy lent bytes at once, the library for C would ask `memmove` of its host.
+pub fn bytes(out: &mut [u8], at: usize, from: &[u8])
+    ensures { out.new ≡ sets out.old at from.now }
+{
+    let n = from.len().min(out.len().saturating_sub(at));
+    for i in 0..n {
+        out[at + i] = from[i];
+    }
+}
+
 // Puts four bytes at a place.
 pub fn four(out: &mut [u8], at: usize, a: u8, b: u8, c: u8, d: u8)
     ensures { out.new ≡ sets out.old at (a ∷ b ∷ c ∷ d ∷ []) }
 {
-    bytes(out, at, &[a, b, c, d]);
+    array(out, at, &[a, b, c, d]);
 }
 
 // Puts a number at a place.
@@ -31,7 +41,7 @@ pub fn four(out: &mut [u8], at: usize, a: u8, b: u8, c: u8, d: u8)
 pub fn number(out: &mut [u8], at: usize, n: u32)
     ensures { out.new ≡ sets out.old at (bytes_of n) }
 {
-    bytes(out, at, &n.to_be_bytes());
+    array(out, at, &n.to_be_bytes());
 }
 
 // Puts `n` zero bytes at a place.
@@ -54,7 +64,7 @@ pub fn numbers(out: &mut [u8], at: usize, a: u32, b: u32, c: u32, d: u32)
         c.to_be_bytes(),
         d.to_be_bytes(),
     ];
-    bytes(out, at, rows.as_flattened());
+    array(out, at, rows.as_flattened());
 }
 
 // Puts bytes and then `n` zero bytes at a place.

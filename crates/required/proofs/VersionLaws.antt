@@ -1,5 +1,5 @@
 -- The search for a required name, one law for each way through a turn (ends, turn, spent); what is found among a header's
--- entries (no_names to number_missing), by the package as it was opened (refused_as, required_as); the version (version_here).
+-- entries (names_sound to versions_sound), and the version (version_here).
 use Prim.Native.Nat.{ℕ, suc, ◌+◌, ◌-◌, ◌≤◌, ◌<◌}
 use mathlib.Core.Path.{◌≡◌, refl, sym, ap, ◌∙◌}
 use mathlib.Core.List.{List}

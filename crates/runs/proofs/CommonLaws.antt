@@ -1,12 +1,12 @@
--- The first difference of two runs of a kind, and how it decides between them (first); a byte of a kind in front (byte_yes,
--- byte_no), and none (none_front, some_front).
-use Rattle.std.proofs.Common.{◌≡◌, ℕ, ◌+◌, ◌<◌, ◌≤◌, List, [], ◌∷◌, Bool, true, false, cond, ◌&&◌, eqb, length, take, drop, get_or, Some, None}
-use Rattle.std.proofs.Common.{nat_cmp, refl, sym, ap, ap₂, ◌∙◌, arith, one-add, eqb-true, drop_of_length-le}
+-- The first difference of two runs of a kind, and how it decides between them (first); the turns of its search (common_turn
+-- to common_over); a byte of a kind in front (byte_yes, byte_no), at a place (byte_here to byte_over), and none (none_front).
+use Rattle.std.proofs.Common.{◌≡◌, ℕ, ◌+◌, ◌<◌, ◌≤◌, List, [], ◌∷◌, Bool, true, false, cond, ◌&&◌, eqb, leb, length, take, drop, get_or, Some, None}
+use Rattle.std.proofs.Common.{nat_cmp, refl, sym, ap, ap₂, ◌∙◌, arith, one-add, eqb-true, eq-eqb, ne_eqb, leb-true, drop_of_length-le}
 use Rattle.std.proofs.lemmas.Option.{none-some, same_Some}
 use Rattle.std.specs.Cmp.Lexicographic.{slice_cmp}
 use Rattle.std.specs.List.{prefix_len}
 use Rattle.std.specs.Option.{option_cmp}
-use borrow.Author.Tests.{eqb-false}
+use borrow.Author.Tests.{eqb-false, leb-false}
 use Rattle.runs.specs.declared.Kind.{Kind}
 use Rattle.runs.specs.Runs.{of_kind}
 use Rattle.runs.specs.Common.{common, byte_of}
@@ -33,6 +33,53 @@ byte_other k s i h e f = sym (ap (byte_of k) (next s i h) ∙ byte_no k (get_or 
 pub byte_over : (k : Kind) (s : List ℕ) (i : ℕ) → length s ≤ i → None ≡ byte_of k (drop i s)
 unfolding byte_of
 byte_over k s i h = sym (ap (byte_of k) (drop_of_length-le s h))
+
+-- one turn of the search
+common_pass : (k : Kind) (a b : ℕ) (s t : List ℕ) → of_kind k a ≡ true → a ≡ b → common k (a ∷ s) (b ∷ t) ≡ 1 + common k s t
+unfolding common
+common_pass k a b s t h e = rw (h, eq-eqb a b e) refl
+
+common_unlike : (k : Kind) (a b : ℕ) (s t : List ℕ) → (a ≡ b → ⊥) → common k (a ∷ s) (b ∷ t) ≡ 0
+unfolding common
+common_unlike k a b s t e = rw (ne_eqb a b e) (go (of_kind k a))
+  where
+    go : (p : Bool) → cond (p && false) (1 + common k s t) 0 ≡ 0
+    go true = refl
+    go false = refl
+
+common_other : (k : Kind) (a b : ℕ) (s t : List ℕ) → of_kind k a ≡ false → common k (a ∷ s) (b ∷ t) ≡ 0
+unfolding common
+common_other k a b s t h = rw h refl
+
+module _ (k : Kind) (s t : List ℕ) (i n : ℕ) (inv : n ≡ i + common k (drop i s) (drop i t)) where
+  here : i < length s → i < length t
+      → common k (drop i s) (drop i t) ≡ common k (get_or s i 0 ∷ drop (i + 1) s) (get_or t i 0 ∷ drop (i + 1) t)
+  here h l = ap₂ (common k) (next s i h) (next t i l)
+
+  pub common_turn : i < length s → i < length t → get_or s i 0 ≡ get_or t i 0 → of_kind k (get_or s i 0) ≡ true
+      → n ≡ i + 1 + common k (drop (i + 1) s) (drop (i + 1) t)
+  common_turn h l e f = omega (arith, here h l, common_pass k _ _ (drop (i + 1) s) (drop (i + 1) t) f e)
+
+  pub common_differ : i < length s → i < length t → (get_or s i 0 ≡ get_or t i 0 → ⊥) → i ≡ n
+  common_differ h l d = omega (arith, here h l, common_unlike k _ _ (drop (i + 1) s) (drop (i + 1) t) d)
+
+  pub common_stop : i < length s → i < length t → of_kind k (get_or s i 0) ≡ false → i ≡ n
+  common_stop h l f = omega (arith, here h l, common_other k _ (get_or t i 0) (drop (i + 1) s) (drop (i + 1) t) f)
+
+  common_left : length s ≤ i → i ≡ n
+  unfolding common
+  common_left h = omega (arith, ap (λ (l : List ℕ). common k l (drop i t)) (drop_of_length-le s h))
+
+  common_right : i < length s → length t ≤ i → i ≡ n
+  unfolding common
+  common_right h l = omega (arith, ap₂ (common k) (next s i h) (drop_of_length-le t l))
+
+  pub common_over : (i < length s → length t ≤ i) → i ≡ n
+  common_over h = go (leb (length s) i) refl
+    where
+      go : (t : Bool) → leb (length s) i ≡ t → i ≡ n
+      go true e = common_left (leb-true _ _ e)
+      go false e = let l = leb-false _ _ e in common_right l (h l)
 
 -- no byte of the kind in front
 pub none_front : (k : Kind) (s : List ℕ) → byte_of k s ≡ None → prefix_len (of_kind k) s ≡ 0

@@ -1,5 +1,5 @@
 -- How two runs meet, in the shape of what the code knows: pairs in front (zip_front), which has more digits (more_digits),
--- letters (letters_unlike, letters_same), digits (digits_unlike, digits_same).
+-- letters (letters_unlike, letters_same, no_letters), digits (no_digits, digits_unlike, digits_same).
 use Rattle.std.proofs.Common.{◌≡◌, ℕ, ◌+◌, ◌-◌, ◌≤◌, List, [], ◌∷◌, Bool, true, false, cond, ◌&&◌, length, take, drop, zip}
 use Rattle.std.proofs.Common.{Option, Some, None, Ok, Err, is_some, Ordering, Less, Equal, Greater, nat_cmp, refl, sym, ap, ap₂, ◌∙◌, arith, one-add}
 use Rattle.std.proofs.lemmas.List.Folds.{length-prefix_len}
@@ -68,6 +68,22 @@ equal_options None (Some b) e = absurd (grind arith)
 equal_options (Some a) None e = absurd (grind arith)
 equal_options (Some a) (Some b) e = ap Some (equal_means a b (compared a b) e)
 
+-- where neither has a byte, both are the same
+none_is : (x : Option ℕ) → is_some x ≡ false → x ≡ None
+none_is None e = refl
+none_is (Some a) e = absurd (grind arith)
+
+both_none : (x y : Option ℕ) → is_some x ≡ false → is_some y ≡ false → Equal ≡ option_cmp nat_cmp x y
+both_none x y e f = rw (none_is x e, none_is y f) refl
+
+pub no_digits : (s t : List ℕ) {x y : Option ℕ} → x ≡ byte_of digit s → y ≡ byte_of digit t
+    → is_some x ≡ false → is_some y ≡ false → Equal ≡ by_first s t
+unfolding by_first
+no_digits s t {x} {y} p q e f =
+    let u = none_front digit s (sym p ∙ none_is x e) in
+    let v = none_front digit t (sym q ∙ none_is y f) in
+    sym (then_equal _ (equal _ _ (u ∙ sym v)) ∙ sym (both_none x y e f ∙ ap₂ (option_cmp nat_cmp) p q))
+
 -- how two runs stand to each other, and what is answered
 module _ (k : Kind) (s t : List ℕ) where
   met_unlike : {o : Ordering} → by_run (front_run k s) (front_run k t) ≡ o → (o ≡ Equal → ⊥) → Err o ≡ met k s t
@@ -103,6 +119,11 @@ module _ (s t : List ℕ) {n : ℕ} (b : n ≡ common letter s t)
       met_same letter s t (by_letters ∙ h)
       (omega (arith, a.left, none_front letter (drop n s) z))
       (omega (arith, a.right, none_front letter (drop n t) (sym q ∙ sym e ∙ p ∙ z)))
+
+pub no_letters : (s t : List ℕ) {n : ℕ} → n ≡ common letter s t
+    → {x y : Option ℕ} → x ≡ byte_of letter (drop n s) → y ≡ byte_of letter (drop n t)
+    → is_some x ≡ false → is_some y ≡ false → Ok (n, n) ≡ met letter s t
+no_letters s t b {x} {y} p q e f = letters_same s t b p q (both_none x y e f) refl
 
 -- where no run goes on behind the bytes in common, both end there
 same_first : (s t : List ℕ) → (byte_of digit s ≡ byte_of digit t → byte_of digit s ≡ None) → by_first s t ≡ Equal

@@ -19,6 +19,7 @@ pub enum Kind {
 
 // The kind of a byte. Letters and digits are ASCII.
 #[tactic(auto, using(std::proofs::lemmas::Bool::Decides::nat_tests), unfolding(crate::specs::Runs::kind, crate::specs::Runs::is_digit, crate::specs::Runs::is_letter))]
+#[inline(always)]
 pub fn kind_of(b: u8) -> Kind
     ensures { result ≡ kind b }
 {
@@ -30,6 +31,7 @@ pub fn kind_of(b: u8) -> Kind
 }
 
 // Whether a byte is of kind `k`.
+#[inline(always)]
 pub fn of_kind(b: u8, k: Kind) -> bool
     ensures { result ≡ of_kind k b }
 {
@@ -44,14 +46,18 @@ fn zeros(s: &[u8]) -> usize
 }
 
 // How many bytes of kind `k` in front are the same in both.
+#[inline(always)]
 fn same_front(a: &[u8], b: &[u8], k: Kind) -> usize
     ensures { (result ≡ common k a.now b.now) × (result ≤ length a.now)
         × (result ≤ length b.now) }
 {
-    a.iter()
-        .zip(b)
-        .take_while(|p| p.0 == p.1 && of_kind(*p.0, k))
-        .count()
+    let n = a.len().min(b.len());
+    for i in 0..n {
+        if a[i] != b[i] || !of_kind(a[i], k) {
+            return i;
+        }
+    }
+    n
 }
 
 // The byte at a place, where it is of kind `k`.
@@ -82,7 +88,12 @@ fn longer(a: &[u8], b: &[u8]) -> Ordering
 fn higher(a: &[u8], b: &[u8]) -> Ordering
     ensures { result ≡ by_first a.now b.now }
 {
-    longer(a, b).then(byte_of(a, 0, Kind::Digit).cmp(&byte_of(b, 0, Kind::Digit)))
+    let x = byte_of(a, 0, Kind::Digit);
+    let y = byte_of(b, 0, Kind::Digit);
+    if x.is_none() && y.is_none() {
+        return Ordering::Equal;
+    }
+    longer(a, b).then(x.cmp(&y))
 }
 
 // The letters in front of two texts, by bytes; a run that the other goes on from is older. Where they are the same: how
@@ -93,6 +104,9 @@ pub fn letters(a: &[u8], b: &[u8]) -> Result<(usize, usize), Ordering>
     let n = same_front(a, b, Kind::Letter);
     let x = byte_of(a, n, Kind::Letter);
     let y = byte_of(b, n, Kind::Letter);
+    if x.is_none() && y.is_none() {
+        return Ok((n, n));
+    }
     match x.cmp(&y) {
         Ordering::Equal => Ok((n, n)),
         order => Err(order),

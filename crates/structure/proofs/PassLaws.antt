@@ -1,4 +1,4 @@
--- What a structure that passed its checks is, and the answer of the checks from what was read.
+-- What a structure that passed its checks is.
 use Prim.Native.Nat.{ℕ, ◌<◌}
 use mathlib.Core.Path.{◌≡◌, refl}
 use mathlib.Core.List.{List}

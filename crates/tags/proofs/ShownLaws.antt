@@ -8,8 +8,9 @@ use Rattle.format.specs.declared.section.Section.{Section}
 use Rattle.format.specs.declared.records.IndexRecord.{IndexRecord}
 use Rattle.entries.specs.Entries.{record_at}
 use Rattle.index.specs.Lookup.{tagged_from, tagged_in}
+use Rattle.tags.specs.declared.Found.{Found}
 use Rattle.tags.specs.declared.Table.{Table}
-use Rattle.tags.specs.Tables.{slots, slot_of, record_in, with_tag, slot_shows, shown_by, noted_in, noted}
+use Rattle.tags.specs.Tables.{slots, slot_of, record_in, with_tag, slot_shows, shown_by, behind_tag, noted_in, noted}
 use Rattle.tags.specs.Tables.{gathered_from, gathered, empty_table, with_slots}
 use Rattle.tags.proofs.SlotLaws.{back, only}
 use Rattle.tags.proofs.GatherLaws.{none, step}
@@ -21,7 +22,7 @@ module _ (e : IndexRecord) (t : Table) where
   noted_length = go (slot_of e.tag)
     where
       go : (a : Option ℕ) → length (noted_in e t a).slots ≡ length t.slots
-      go (Some k) = length-set t.slots k (Some e)
+      go (Some k) = length-set t.slots k (Some (behind_tag e))
       go None = refl
 
   noted_shows : (tag k : ℕ) → slot_of tag ≡ Some k → length t.slots ≡ slots
@@ -32,17 +33,18 @@ module _ (e : IndexRecord) (t : Table) where
       go : (a : Option ℕ) → slot_of e.tag ≡ a → (b : Bool) → eqb e.tag tag ≡ b
           → slot_shows (noted_in e t a) (Some k) tag ≡ cond b (Some e) (with_tag tag (record_in t.slots k))
       go (Some j) p true q =
-          let same : j ≡ k = cc (ap slot_of (eqb-true e.tag tag q)) in
+          let own : e.tag ≡ tag = eqb-true e.tag tag q in
+          let same : j ≡ k = cc (ap slot_of own) in
           let l = (back tag k h).1 in
-          rw (same, get_or-set_same t.slots k (Some e) None (omega arith), q)
+          rw (same, get_or-set_same t.slots k (Some (behind_tag e)) None (omega arith), ← own)
       go None p true q = let z : ◌≡◌ {A = Option ℕ} None (Some k) = cc (ap slot_of (eqb-true e.tag tag q)) in cc
       go (Some j) p false q =
-          ap (with_tag tag) (get_or-set_other t.slots j k (Some e) None (λ (r : k ≡ j). eqb-false e.tag tag q (only e.tag tag k (rw r p) h)))
+          ap (with_tag tag) (get_or-set_other t.slots j k (Some (behind_tag e)) None (λ (r : k ≡ j). eqb-false e.tag tag q (only e.tag tag k (rw r p) h)))
       go None p false q = refl
 
 module _ (s : List ℕ) (section : Section) where
   gathered_length : (n i : ℕ) → length (gathered_from s section empty_table n i).slots ≡ slots
-  gathered_length zero i = rw (none s section empty_table i) (length-replicate {A = Option IndexRecord} slots None)
+  gathered_length zero i = rw (none s section empty_table i) (length-replicate {A = Option Found} slots None)
   gathered_length (suc n) i =
       rw (step s section empty_table n i)
       (noted_length (record_at s section i) (gathered_from s section empty_table n (i + 1)) ∙ gathered_length n (i + 1))
@@ -58,7 +60,7 @@ module _ (s : List ℕ) (section : Section) where
 
   none_shown : (tag k : ℕ) → slot_of tag ≡ Some k → shown_by empty_table tag ≡ None
   unfolding shown_by
-  none_shown tag k h = let l = (back tag k h).1 in rw (h, get_or-replicate {A = Option IndexRecord} slots k None None l)
+  none_shown tag k h = let l = (back tag k h).1 in rw (h, get_or-replicate {A = Option Found} slots k None None l)
 
   gathered_at : (tag k : ℕ) → slot_of tag ≡ Some k → (n i : ℕ)
       → shown_by (gathered_from s section empty_table n i) tag ≡ tagged_from s section n i tag

@@ -1,4 +1,4 @@
--- A slot is one tag's alone (only), and one of the table's (within).
+-- A slot is one tag's alone (only), and one of the table's (back).
 use Rattle.std.proofs.Common.{ℕ, ◌+◌, ◌-◌, ◌≤◌, ◌<◌, ◌≡◌, refl, sym, ap, ◌∙◌, Bool, true, false, cond, ◌&&◌, eqb, leb, arith}
 use Rattle.std.specs.Prelude.{Option, Some, None}
 use borrow.Author.Tests.{eqb-true, leb-true, le-leb, lt-leb}

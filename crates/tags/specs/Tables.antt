@@ -3,6 +3,7 @@ use Rattle.std.specs.Prelude.{ℕ, zero, suc, ◌+◌, ◌-◌, List, Bool, cond
 use Rattle.format.specs.declared.section.Section.{Section}
 use Rattle.format.specs.declared.records.IndexRecord.{IndexRecord}
 use Rattle.entries.specs.Entries.{record_at}
+use Rattle.tags.specs.declared.Found.{Found}
 use Rattle.tags.specs.declared.Table.{Table}
 use Rattle.tags.specs.Tags.{Look}
 
@@ -23,15 +24,15 @@ slot_of tag =
     None)))))))
 
 -- what a slot holds
-abbrev pub record_in : List (Option IndexRecord) → ℕ → Option IndexRecord
+abbrev pub record_in : List (Option Found) → ℕ → Option Found
 record_in records k = get_or records k None
 
--- a record that a slot holds, where it has the tag
-abbrev pub with_tag : ℕ → Option IndexRecord → Option IndexRecord
-with_tag tag (Some e) = cond (eqb e.tag tag) (Some e) None
+-- the record of a tag, of what the tag's slot holds
+abbrev pub with_tag : ℕ → Option Found → Option IndexRecord
+with_tag tag (Some f) = Some (record { tag = tag; ty = f.ty; offset = f.offset; count = f.count })
 with_tag tag None = None
 
--- what a table shows for a tag: the record in the tag's slot, where that has the tag
+-- what a table shows for a tag: the record of that tag with the type, offset and count in the tag's slot
 abbrev pub slot_shows : Table → Option ℕ → ℕ → Option IndexRecord
 slot_shows table (Some k) tag = with_tag tag (record_in table.slots k)
 slot_shows table None tag = None
@@ -39,9 +40,13 @@ slot_shows table None tag = None
 unfoldable pub shown_by : Table → Look
 shown_by table tag = slot_shows table (slot_of tag) tag
 
+-- a record's type, offset and count
+abbrev pub behind_tag : IndexRecord → Found
+behind_tag e = record { ty = e.ty; offset = e.offset; count = e.count }
+
 -- a table with a record in its tag's slot, where it has one
 abbrev pub noted_in : IndexRecord → Table → Option ℕ → Table
-noted_in e table (Some k) = record { slots = set table.slots k (Some e) }
+noted_in e table (Some k) = record { slots = set table.slots k (Some (behind_tag e)) }
 noted_in e table None = table
 
 unfoldable pub noted : IndexRecord → Table → Table

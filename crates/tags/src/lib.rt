@@ -7,21 +7,35 @@ ghost use Rattle.tags.specs.Tags.{has, count_in, number_in};
 ghost use Rattle.tags.specs.Tables.{slots, slot_of, shown_by, noted, empty_table, gathered};
 
 use format::{IndexRecord, Section};
+use places::StoreOffset;
+
+// What the record of a slot's tag says behind its tag.
+#[derive(Clone, Copy)]
+struct Found {
+    ty: u32,
+    offset: StoreOffset,
+    count: u32,
+}
 
 // A table of records: a slot for each tag of the catalogue.
 #[derive(Drop)]
 pub struct Table {
-    slots: [Option<IndexRecord>; Table::SLOTS],
+    slots: [Option<Found>; Table::SLOTS],
 }
 
 // The slot of a tag, where it has one.
+#[inline(always)]
 fn slot(tag: u32) -> Option<usize>
     ensures is { result ≡ slot_of tag }
     ensures within { IfSome result (λ k. k < slots) }
 {
+    if (1000..=1055).contains(&tag) {
+        return Some((tag - 1000) as usize);
+    }
+    if (1080..=1132).contains(&tag) {
+        return Some((tag - 1024) as usize);
+    }
     match tag {
-        1000..=1055 => Some((tag - 1000) as usize),
-        1080..=1132 => Some((tag - 1024) as usize),
         1064 => Some(109),
         20001 => Some(110),
         20002 => Some(111),
@@ -34,7 +48,7 @@ fn slot(tag: u32) -> Option<usize>
 
 impl Table {
     // How many tags have a slot.
-    const SLOTS: usize = 115;
+    pub const SLOTS: usize = 115;
 
     // A table with no record.
     pub fn new() -> Self
@@ -61,15 +75,25 @@ impl Table {
         ensures { self.new ≡ noted e self.old }
     {
         if let Some(k) = slot(e.tag) {
-            self.slots[k] = Some(e);
+            self.slots[k] = Some(Found {
+                ty: e.ty,
+                offset: e.offset,
+                count: e.count,
+            });
         }
     }
 
     // What the table shows for a tag.
+    #[inline(always)]
     pub fn look(&self, tag: u32) -> Option<IndexRecord>
         ensures { result ≡ shown_by self.now tag }
     {
-        self.slots[slot(tag)?].filter(|e| e.tag == tag)
+        self.slots[slot(tag)?].map(|found| IndexRecord {
+            tag,
+            ty: found.ty,
+            offset: found.offset,
+            count: found.count,
+        })
     }
 
     // Whether the table has the tag.

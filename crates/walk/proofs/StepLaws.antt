@@ -1,4 +1,4 @@
--- Steps of the index walk, for each way through the functions that take them.
+-- The structure that a step of the index walk goes by lies in the package.
 use Prim.Native.Nat.{ℕ, ◌≤◌}
 use mathlib.Core.Path.{◌≡◌, sym, ◌∙◌}
 use mathlib.Core.List.{List}

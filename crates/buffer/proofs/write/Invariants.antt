@@ -1,5 +1,5 @@
--- The buffer is to be what it is now, with the doses that are left from i on; past its end they change nothing.
-use Rattle.std.proofs.Common.{◌≡◌, map}
+-- There is room from i on, and the buffer is to be what it is now, with the doses that are left from i on.
+use Rattle.std.proofs.Common.{◌≡◌, ◌<◌, map, length}
 use Rattle.std.proofs.lemmas.List.Edits.{sets}
 use Rattle.book.specs.Book.{dose_at}
 use Rattle.book.specs.Doses.{doses}
@@ -10,5 +10,6 @@ use Rattle.buffer.proofs.write.Given as goal
 abbrev pub invariant-loop-at : goal.invariant-loop-at
 invariant-loop-at l = (goal.iterator-loop-at).can_next l.at-iterator
     × (goal.iterator-loop-at).is_finite l.at-iterator
+    × (l.i < length l.out)
     × (sets l.initial.out 0 (numbers_of (doses l.book))
     ≡ sets l.out l.i (numbers_of (map (dose_at l.book) (left l.at-iterator))))

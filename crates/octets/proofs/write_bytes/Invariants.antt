@@ -1,5 +1,5 @@
--- The buffer is to be what it is now, with the doses that are left from i on; past its end they change nothing.
-use Rattle.std.proofs.Common.{◌≡◌, map}
+-- There is room from i on, and the buffer is to be what it is now, with the doses that are left from i on.
+use Rattle.std.proofs.Common.{◌≡◌, ◌<◌, map, length}
 use Rattle.std.proofs.lemmas.List.Edits.{sets}
 use Rattle.book.specs.Book.{dose_at}
 use Rattle.book.specs.Doses.{doses}
@@ -11,5 +11,6 @@ use Rattle.octets.proofs.write_bytes.Given as goal
 abbrev pub invariant-loop-at : goal.invariant-loop-at
 invariant-loop-at l = (goal.iterator-loop-at).can_next l.at-iterator
     × (goal.iterator-loop-at).is_finite l.at-iterator
+    × (l.i < length l.out)
     × (sets l.initial.out 0 (number_bytes (numbers_of (doses l.book)))
     ≡ sets l.out l.i (number_bytes (numbers_of (map (dose_at l.book) (left l.at-iterator)))))

@@ -1,8 +1,13 @@
+use native.Mathlib.Nat.{add-zero}
 use Rattle.put.proofs.PutLaws as laws
+use borrow.Author.Rules.{rules}
 use Rattle.put.proofs.bytes.Goals as goal
 
-pub returns-then-from-room : goal.returns-then-from-room
-returns-then-from-room c = search laws.all_put
+pub loop-i-init : goal.loop-i-init
+loop-i-init c = (rw add-zero, search rules)
 
-pub returns-else-from-room : goal.returns-else-from-room
-returns-else-from-room c = search laws.room_put
+pub loop-i-preserved : goal.loop-i-preserved
+loop-i-preserved c = (search laws.copy_turn, search rules)
+
+pub returns : goal.returns
+returns c = search laws.copied
